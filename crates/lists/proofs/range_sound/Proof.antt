@@ -1,0 +1,36 @@
+use borrow.Author.Needs.{needs}
+use Rattle.lists.proofs.range_sound.Statement.{statement}
+use Rattle.lists.proofs.range_sound.Tie as tie
+
+length-requires : tie.Need-length-requires
+length-requires c κs = search needs
+
+sum-at-most-requires : tie.Need-sum-at-most-requires
+sum-at-most-requires c κs = search needs
+
+both-requires : tie.Need-both-requires
+both-requires c κs = search needs
+
+position-requires : tie.Need-position-requires
+position-requires c κs = search needs
+
+sum-fits-requires : tie.Need-sum-fits-requires
+sum-fits-requires c κs = search needs
+
+both-requires-2 : tie.Need-both-requires-2
+both-requires-2 c κs = search needs
+
+returns : tie.Need-returns
+returns c = cc
+
+pub range-sound-spec : {M : Type 1} → statement M
+range-sound-spec =
+    tie.close
+    (tie.spec
+    length-requires
+    sum-at-most-requires
+    both-requires
+    position-requires
+    sum-fits-requires
+    both-requires-2
+    returns)

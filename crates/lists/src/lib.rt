@@ -1,0 +1,205 @@
+// The checks of a file's list and of its shared bytes. Each answers 0 or the number of a refusal.
+use item::Item;
+use records::both;
+use records::either;
+use records::first;
+use records::sum_at_most;
+use records::sum_fits;
+use records::unless;
+ghost use mathlib.Core.Path.{_≡_};
+ghost use mathlib.Core.Bool.{not, true, _||_};
+ghost use Prim.Native.Nat.{ℕ, _+_, _*_, _<_, _≤_};
+ghost use lib.Dec.{leb, ltb};
+ghost use Rattle.records.specs.Stages.{unless, stage, every};
+ghost use Rattle.item.specs.Items.{fields, items, ranged};
+ghost use Rattle.lists.specs.Lists.{listSized, sharedSound, rangeSound, itemSound, wellKept, whole, recordRefusal};
+ghost use Rattle.lists.specs.Raw.{follows, turn, next};
+
+// Refusal 1 of a list: broken length, or over-long.
+pub fn list_size_refusal(list: &[u8]) -> u8
+    ensures { λ r. ⌜ r ≡ unless (listSized (now (list .entry))) 1 ⌝ }
+{
+    let n = list.len();
+    unless(both(n % 70 == 0, n / 70 <= 65536), 1)
+}
+
+fn shared_byte_refusal(b: u8) -> u8
+    ensures { λ r. ⌜ r ≡ unless (leb b 1) 1 ⌝ }
+{
+    unless(b <= 1, 1)
+}
+
+// Refusal 1 of shared bytes that are neither 0 nor 1.
+fn shared_bytes_refusal(shared: &[u8]) -> u8
+    ensures { λ r. ⌜ r ≡ unless (every (λ (b : ℕ). leb b 1) (now (shared .entry))) 1 ⌝ }
+{
+    for i in 0..shared.len() {
+        let why = shared_byte_refusal(shared[i]);
+        if why != 0 {
+            return why;
+        }
+    }
+    0
+}
+
+// Refusal 1 of the shared bytes: not one a record, or one that is neither 0 nor 1.
+pub fn shared_refusal(shared: &[u8], list: &[u8]) -> u8
+    ensures { λ r. ⌜ r ≡ unless (sharedSound (now (shared .entry)) (now (list .entry))) 1 ⌝ }
+{
+    first(
+        unless(shared.len() == list.len() / 70, 1),
+        shared_bytes_refusal(shared),
+    )
+}
+
+// Whether an item is of kind 1 or 2, whose key and length are a range of the file.
+pub fn is_ranged(item: Item) -> bool
+    ensures { λ r. ⌜ r ≡ ranged (fields item) ⌝ }
+{
+    let kind = item.kind();
+    either(kind == 1, kind == 2)
+}
+
+fn range_sound(item: Item) -> bool
+    ensures { λ r. ⌜ r ≡ rangeSound (fields item) ⌝ }
+{
+    let length = item.length();
+    both(
+        both(
+            1 <= length,
+            sum_at_most(item.key, length, 9223372036854775808),
+        ),
+        sum_fits(item.position(), length),
+    )
+}
+
+fn item_sound(file: u64, item: Item) -> bool
+    ensures { λ r. ⌜ r ≡ itemSound file (fields item) ⌝ }
+{
+    both(
+        both(item.file == file, item.key_type == 108),
+        either(!is_ranged(item), range_sound(item)),
+    )
+}
+
+// What the check of the order keeps of the records that it has passed: whether there was one, the last one's key, and
+// the end of the last range.
+pub struct Last {
+    pub any: bool,
+    pub key: u64,
+    pub end: u64,
+}
+
+fn follows(last: Last, item: Item) -> bool
+    ensures { λ r. ⌜ r ≡ follows last (fields item) ⌝ }
+{
+    both(
+        either(!last.any, last.key < item.key),
+        either(!is_ranged(item), last.end <= item.key),
+    )
+}
+
+fn turn(file: u64, last: Last, item: Item) -> u8
+    ensures { λ r. ⌜ r ≡ turn file last (fields item) ⌝ }
+{
+    unless(both(item_sound(file, item), follows(last, item)), 2)
+}
+
+// The state after an item that the turn accepted.
+fn next(file: u64, last: Last, item: Item) -> Last
+    requires { ⌜ turn file last (fields item) ≡ 0 ⌝ }
+    ensures { λ r. ⌜ r ≡ next last (fields item) ⌝ }
+{
+    if is_ranged(item) {
+        let length = item.length();
+        Last {
+            any: true,
+            key: item.key,
+            end: item.key + length,
+        }
+    } else {
+        Last {
+            any: true,
+            key: item.key,
+            end: last.end,
+        }
+    }
+}
+
+// Refusal 2: a list that is not well kept, sectors aside.
+pub fn list_refusal(list: &[u8], file: u64) -> u8
+    ensures { λ r. ⌜ r ≡ unless (wellKept file (items (now (list .entry)))) 2 ⌝ }
+{
+    let n = list.len() / 70;
+    let mut last = Last {
+        any: false,
+        key: 0,
+        end: 0,
+    };
+    for i in 0..n {
+        let item = item::item_at(list, i);
+        let why = turn(file, last, item);
+        if why != 0 {
+            return why;
+        }
+        last = next(file, last, item);
+    }
+    0
+}
+
+fn whole_refusal(item: Item, sector: u64) -> u8
+    requires { ⌜ 0 < sector ⌝ }
+    ensures { λ r. ⌜ r ≡ unless (whole sector (fields item)) 4 ⌝ }
+{
+    let length = item.length();
+    unless(
+        either(
+            !is_ranged(item),
+            both(item.key % sector == 0, length % sector == 0),
+        ),
+        4,
+    )
+}
+
+// Refusal 4 of a list: a key or length of kind 1 or 2 that is not whole sectors.
+pub fn sectors_refusal(list: &[u8], sector: u64) -> u8
+    requires { ⌜ 0 < sector ⌝ }
+    ensures { λ r. ⌜ r ≡ unless (every (whole sector) (items (now (list .entry)))) 4 ⌝ }
+{
+    let n = list.len() / 70;
+    for i in 0..n {
+        let why = whole_refusal(item::item_at(list, i), sector);
+        if why != 0 {
+            return why;
+        }
+    }
+    0
+}
+
+// Refusals 7, 8 and 9 of one record.
+pub fn record_refusal(item: Item) -> u8
+    ensures { λ r. ⌜ r ≡ recordRefusal (fields item) ⌝ }
+{
+    let kind = item.kind();
+    first(
+        unless(kind != 0, 7),
+        first(
+            unless(kind <= 2, 8),
+            unless(both(item.encryption() == 0, item.other() == 0), 9),
+        ),
+    )
+}
+
+// Refusals 7, 8 and 9, record by record.
+pub fn records_refusal(list: &[u8]) -> u8
+    ensures { λ r. ⌜ r ≡ stage recordRefusal (items (now (list .entry))) ⌝ }
+{
+    let n = list.len() / 70;
+    for i in 0..n {
+        let why = record_refusal(item::item_at(list, i));
+        if why != 0 {
+            return why;
+        }
+    }
+    0
+}

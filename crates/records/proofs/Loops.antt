@@ -1,0 +1,82 @@
+-- One law of loops over the records of a list. Assumes nothing.
+use mathlib.Core.Path.{_≡_, refl, ap, _∙_, sym}
+use mathlib.Core.List.{List, [], _∷_}
+use Prim.Native.Nat.{ℕ, zero, suc, _+_, _-_, _*_, _/_, _<_, _≤_}
+use native.Mathlib.Omega.{arith}
+use native.Mathlib.Nat.{add-zero, sub-zero, add-mul, one-mul, zero-mul, mul-one}
+use lib.ListN.{length, getD, drop}
+use lib.Seq.{drop-drop, getD-drop}
+use Rattle.records.specs.Records.{chunks, records}
+use Rattle.records.specs.Stages.{first, stage, sieve}
+use Rattle.records.proofs.Tests.{first-stop, first-go}
+
+module _ {A : Type 0} (d : List ℕ → A) (w : ℕ) where
+  -- of n records those from i on
+  unfoldable pub rest : List ℕ → ℕ → ℕ → List A
+  rest s n i = chunks d w (n - i) (drop (i * w) s)
+
+  pub rest-all : (s : List ℕ) → rest s (length s / w) 0 ≡ records d w s
+  unfolding rest records
+  rest-all s = rw (sub-zero, zero-mul) refl
+
+  pub rest-cons : (s : List ℕ) (n i : ℕ) → i < n → rest s n i ≡ d (drop (i * w) s) ∷ rest s n (i + 1)
+  unfolding rest chunks
+  rest-cons s n i h =
+      let e : n - i ≡ suc (n - (i + 1)) = omega arith in
+      let m : (i + 1) * w ≡ i * w + w = rw (add-mul, one-mul) refl in
+      rw (e, drop-drop w (i * w) s, m) refl
+
+  pub rest-nil : (s : List ℕ) (n i : ℕ) → n ≤ i → rest s n i ≡ []
+  unfolding rest chunks
+  rest-nil s n i h =
+      let e : n - i ≡ 0 = omega arith in
+      rw e refl
+
+  -- a turn of a loop that stops at the first refusal, from what the turn's calls ensure, and its end
+  module _ (f : A → ℕ) (s : List ℕ) (n i : ℕ) (r : A) (x : ℕ) (h : i < n) (e : r ≡ d (drop (i * w) s)) (p : x ≡ f r) where
+    stage-cons : stage f (rest s n i) ≡ first x (stage f (rest s n (i + 1)))
+    unfolding stage
+    stage-cons = rw (rest-cons s n i h, ← e, ← p) refl
+
+    pub stage-turn : x ≡ 0 → stage f (rest s n (i + 1)) ≡ stage f (rest s n i)
+    stage-turn z = sym (stage-cons ∙ first-go x _ z)
+
+    pub stage-stop : (x ≡ 0 → ⊥) → x ≡ stage f (rest s n i)
+    stage-stop z = first-stop x _ z ∙ sym stage-cons
+
+  pub stage-done : (f : A → ℕ) (s : List ℕ) (n i : ℕ) → n ≤ i → 0 ≡ stage f (rest s n i)
+  unfolding stage
+  stage-done f s n i h = rw (rest-nil s n i h) refl
+
+  -- the same with a state; b is the state that the turn leaves
+  module _ {S : Type 0} (f : S → A → ℕ) (g : S → A → S) (s : List ℕ) (n i : ℕ) (a : S) (r : A) (x : ℕ) (h : i < n) (e : r ≡ d (drop (i * w) s)) (p : x ≡ f a r) where
+    sieve-cons : sieve f g a (rest s n i) ≡ first x (sieve f g (g a r) (rest s n (i + 1)))
+    unfolding sieve
+    sieve-cons = rw (rest-cons s n i h, ← e, ← p) refl
+
+    pub sieve-turn : (b : S) → b ≡ g a r → x ≡ 0 → sieve f g b (rest s n (i + 1)) ≡ sieve f g a (rest s n i)
+    sieve-turn b q z = rw q (sym (sieve-cons ∙ first-go x _ z))
+
+    pub sieve-stop : (x ≡ 0 → ⊥) → x ≡ sieve f g a (rest s n i)
+    sieve-stop z = first-stop x _ z ∙ sym sieve-cons
+
+  pub sieve-done : {S : Type 0} (f : S → A → ℕ) (g : S → A → S) (s : List ℕ) (n i : ℕ) (a : S) → n ≤ i → 0 ≡ sieve f g a (rest s n i)
+  unfolding sieve
+  sieve-done f g s n i a h = rw (rest-nil s n i h) refl
+
+-- ---- a list of plain numbers: records of width 1
+
+abbrev pub head : List ℕ → ℕ
+head s = getD s 0 0
+
+chunks-ones : (s : List ℕ) → chunks head 1 (length s) s ≡ s
+unfolding chunks
+chunks-ones [] = refl
+chunks-ones (x ∷ s) = ap (λ (t : List ℕ). x ∷ t) (chunks-ones s)
+
+pub rest-ones : (s : List ℕ) → rest head 1 s (length s) 0 ≡ s
+unfolding rest
+rest-ones s = rw sub-zero (chunks-ones s)
+
+pub head-at : (s : List ℕ) (i : ℕ) → getD s i 0 ≡ head (drop (i * 1) s)
+head-at s i = rw (mul-one, getD-drop, add-zero) refl

@@ -1,0 +1,52 @@
+// Tests and refusal stages in code, and (specs/, proofs/) records of one width with the laws of loops over them.
+// A test written with these functions is one expression without branches, so its proof is found unasked.
+ghost use mathlib.Core.Path.{_≡_};
+ghost use mathlib.Core.Bool.{_&&_, _||_};
+ghost use Prim.Native.Nat.{_+_, _^_};
+ghost use lib.Dec.{leb, ltb};
+ghost use Rattle.records.specs.Stages.{first, unless};
+
+// Both tests hold.
+pub fn both(a: bool, b: bool) -> bool
+    ensures { λ r. ⌜ r ≡ (a && b) ⌝ }
+{
+    if a { b } else { false }
+}
+
+// One of two tests holds.
+pub fn either(a: bool, b: bool) -> bool
+    ensures { λ r. ⌜ r ≡ (a || b) ⌝ }
+{
+    if a { true } else { b }
+}
+
+// Whether a + b is at most a limit.
+pub fn sum_at_most(a: u64, b: u64, limit: u64) -> bool
+    ensures { λ r. ⌜ r ≡ leb (a + b) limit ⌝ }
+{
+    if limit < a {
+        return false;
+    }
+    b <= limit - a
+}
+
+// Whether a + b fits 64 bits.
+pub fn sum_fits(a: u64, b: u64) -> bool
+    ensures { λ r. ⌜ r ≡ ltb (a + b) (2 ^ 64) ⌝ }
+{
+    b <= 18446744073709551615 - a
+}
+
+// A test with the number of its refusal: 0 where it holds.
+pub fn unless(ok: bool, number: u8) -> u8
+    ensures { λ r. ⌜ r ≡ unless ok number ⌝ }
+{
+    if ok { 0 } else { number }
+}
+
+// The earlier of two refusals: `why` unless it is 0, else `next`.
+pub fn first(why: u8, next: u8) -> u8
+    ensures { λ r. ⌜ r ≡ first why next ⌝ }
+{
+    if why == 0 { next } else { why }
+}
