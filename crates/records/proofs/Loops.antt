@@ -3,7 +3,7 @@ use mathlib.Core.Path.{_≡_, refl, ap, _∙_, sym}
 use mathlib.Core.List.{List, [], _∷_}
 use Prim.Native.Nat.{ℕ, zero, suc, _+_, _-_, _*_, _/_, _<_, _≤_}
 use native.Mathlib.Omega.{arith}
-use native.Mathlib.Nat.{add-zero, sub-zero, add-mul, one-mul, zero-mul, mul-one}
+use native.Mathlib.Nat.{add-zero, add-comm, suc-mul, sub-zero, add-mul, one-mul, zero-mul, mul-one}
 use lib.ListN.{length, getD, drop}
 use lib.Seq.{drop-drop, getD-drop}
 use Rattle.records.specs.Records.{chunks, records}
@@ -31,6 +31,20 @@ module _ {A : Type 0} (d : List ℕ → A) (w : ℕ) where
   rest-nil s n i h =
       let e : n - i ≡ 0 = omega arith in
       rw e refl
+
+  -- how many records there are, and which
+  pub chunks-length : (n : ℕ) (s : List ℕ) → length (chunks d w n s) ≡ n
+  unfolding chunks
+  chunks-length zero s = refl
+  chunks-length (suc n) s = ap suc (chunks-length n (drop w s))
+
+  pub chunks-at : (n : ℕ) (s : List ℕ) (k : ℕ) (e : A) → k < n → getD (chunks d w n s) k e ≡ d (drop (k * w) s)
+  unfolding chunks
+  chunks-at zero s k e h = absurd (omega arith)
+  chunks-at (suc n) s zero e h = rw zero-mul refl
+  chunks-at (suc n) s (suc k) e h =
+      let m : w + k * w ≡ suc k * w = add-comm w (k * w) ∙ sym (suc-mul k w) in
+      chunks-at n (drop w s) k e (omega arith) ∙ rw (drop-drop (k * w) w s, m) refl
 
   -- a turn of a loop that stops at the first refusal, from what the turn's calls ensure, and its end
   module _ (f : A → ℕ) (s : List ℕ) (n i : ℕ) (r : A) (x : ℕ) (h : i < n) (e : r ≡ d (drop (i * w) s)) (p : x ≡ f r) where

@@ -78,11 +78,26 @@ unfolding first
 first-last zero = refl
 first-last (suc x) = refl
 
+pub first-assoc : (x y z : ℕ) → first (first x y) z ≡ first x (first y z)
+unfolding first
+first-assoc zero y z = refl
+first-assoc (suc x) y z = refl
+
 -- accepted: neither refuses
 pub first-zero : (x y : ℕ) → first x y ≡ 0 → (x ≡ 0) × (y ≡ 0)
 unfolding first
 first-zero zero y h = (refl, h)
 first-zero (suc x) y h = absurd (omega arith)
+
+-- no stage refuses
+abbrev pub Zeros : List ℕ → Type 0
+Zeros [] = Unit {0}
+Zeros (x ∷ xs) = (x ≡ 0) × Zeros xs
+
+pub firstOf-zero : (xs : List ℕ) → firstOf xs ≡ 0 → Zeros xs
+unfolding firstOf
+firstOf-zero [] h = tt
+firstOf-zero (x ∷ xs) h = let p = first-zero x (firstOf xs) h in (p .0, firstOf-zero xs (p .1))
 
 pub unless-zero : (b : Bool) (n : ℕ) → unless b n ≡ 0 → (n ≡ 0 → ⊥) → b ≡ true
 unless-zero true n h p = refl

@@ -1,3 +1,7 @@
+use mathlib.Core.Path.{_∙_, ap, ap₂}
+use mathlib.Core.Bool.{Bool, _&&_}
+use Prim.Native.Nat.{ℕ, _+_, _^_}
+use lib.Dec.{leb, ltb}
 use borrow.Author.Needs.{needs}
 use Rattle.lists.proofs.range_sound.Statement.{statement}
 use Rattle.lists.proofs.range_sound.Tie as tie
@@ -21,7 +25,13 @@ both-requires-2 : tie.Need-both-requires-2
 both-requires-2 c κs = search needs
 
 returns : tie.Need-returns
-returns c = cc
+returns c =
+    let l = c .before .before .before .before .before .length .ensures in
+    let k = c .before .before .before .before .before .before .args .item .key in
+    c .both2 .ensures
+    ∙ ap₂ (λ (x y : Bool). x && y)
+    (c .before .before .before .both .ensures ∙ ap₂ (λ (x y : Bool). x && y) (ap (leb 1) l) (c .before .before .before .before .sum-at-most .ensures ∙ ap (λ (x : ℕ). leb (k + x) (2 ^ 63)) l))
+    (c .before .sum-fits .ensures ∙ ap₂ (λ (x y : ℕ). ltb (x + y) (2 ^ 64)) (c .before .before .position .ensures) l)
 
 pub range-sound-spec : {M : Type 1} → statement M
 range-sound-spec =

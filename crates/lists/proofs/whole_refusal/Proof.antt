@@ -1,3 +1,8 @@
+use mathlib.Core.Path.{_∙_, ap, ap₂}
+use mathlib.Core.Bool.{Bool, _&&_, _||_, not}
+use Prim.Native.Nat.{ℕ, _%_}
+use lib.Dec.{eqb}
+use Rattle.records.specs.Stages.{unless}
 use borrow.Author.Needs.{needs}
 use Rattle.lists.proofs.whole_refusal.Statement.{statement}
 use Rattle.lists.proofs.whole_refusal.Tie as tie
@@ -24,7 +29,13 @@ unless-requires : tie.Need-unless-requires
 unless-requires c κs = search needs
 
 returns : tie.Need-returns
-returns c = cc
+returns c =
+    let a = c .before .before .before .before .before .before .args in
+    c .unless .ensures
+    ∙ ap (λ (b : Bool). unless b 4)
+    (c .before .either .ensures
+    ∙ ap₂ (λ (x y : Bool). not x || y) (c .before .before .before .before .is-ranged .ensures)
+    (c .before .before .both .ensures ∙ ap (λ (l : ℕ). eqb (a .item .key % a .sector) 0 && eqb (l % a .sector) 0) (c .before .before .before .before .before .length .ensures)))
 
 pub whole-refusal-spec : {M : Type 1} → statement M
 whole-refusal-spec =
