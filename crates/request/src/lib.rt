@@ -31,7 +31,7 @@ pub struct Range {
 
 // The numbers of a plan: how many records it has in each output, the file's new size and byte count, and whether the
 // file is marked for preallocation.
-pub struct Plan {
+pub struct Numbers {
     pub edits: usize,
     pub shares: usize,
     pub unrefs: usize,
@@ -44,7 +44,7 @@ pub struct Plan {
 }
 
 pub enum Answer {
-    Planned(Plan),
+    Planned(Numbers),
     Nothing,
     Refused(u8),
 }
