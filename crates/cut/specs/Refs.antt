@@ -18,12 +18,16 @@ refOf f = record { start = f .extentStart; offset = reference f }
 abbrev pub sameRef : Ref → Ref → Bool
 sameRef r q = eqb (r .start) (q .start) && eqb (r .offset) (q .offset)
 
--- an item names this extent; at this reference offset
+-- an item that names an extent, and whose reference passes a test
+abbrev pub refPasses : (Ref → Bool) → Fields → Bool
+refPasses p f = named f && p (refOf f)
+
+-- it names this extent; at this reference offset
 abbrev pub names : ℕ → Fields → Bool
-names start f = named f && eqb (f .extentStart) start
+names start f = refPasses (λ (q : Ref). eqb (q .start) start) f
 
 abbrev pub refers : Ref → Fields → Bool
-refers r f = named f && sameRef (refOf f) r
+refers r f = refPasses (λ (q : Ref). sameRef q r) f
 
 -- how many items of a list do
 abbrev pub naming : ℕ → List Fields → ℕ

@@ -1,12 +1,13 @@
 -- What the setters and the constructor make of an item's numbers. Assumes nothing.
 use mathlib.Core.Path.{_≡_, refl, _∙_, ap}
 use mathlib.Core.List.{List}
-use Prim.Native.Nat.{ℕ, _+_, _/_, _<_, _^_}
+use Prim.Native.Nat.{ℕ, _+_, _*_, _/_, _<_, _^_}
 use native.Mathlib.Omega.{arith}
-use lib.ListN.{length, replicate}
+use lib.ListN.{length, getD, drop, replicate}
 use Rattle.endian.specs.Le.{le, num, room}
 use Rattle.endian.proofs.Fields.{place, dec}
-use Rattle.records.proofs.Loops.{rest, rest-all}
+use Rattle.records.specs.Records.{records}
+use Rattle.records.proofs.Loops.{rest, rest-all, chunks-length, chunks-at}
 use Rattle.item.specs.declared.Item.{Item}
 use Rattle.item.specs.Items.{Fields, fields, itemOf, decode, items, regularItem, windowed, joined, writtenInPlace, ofKind, changed}
 use Rattle.item.specs.Raw.{written, blank}
@@ -25,6 +26,14 @@ item-decode r s h = ap fields h
 pub rest-items : (s : List ℕ) → rest decode 70 s (length s / 70) 0 ≡ items s
 unfolding items
 rest-items s = rest-all decode 70 s
+
+pub items-length : (s : List ℕ) → length (items s) ≡ length s / 70
+unfolding items records
+items-length s = chunks-length decode 70 (length s / 70) s
+
+pub items-at : (s : List ℕ) (k : ℕ) (e : Fields) → k < length s / 70 → getD (items s) k e ≡ decode (drop (k * 70) s)
+unfolding items records
+items-at s k e h = chunks-at decode 70 (length s / 70) s k e h
 
 -- ---- setters: one number of the data written anew
 pub with-kind : (i r : Item) (f : Fields) (v : ℕ) → Reads i f → v < 256 → r ≡ written i 20 1 v → Reads r (ofKind f v)

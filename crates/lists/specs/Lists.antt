@@ -2,7 +2,7 @@
 -- (document 01, "What a call is lent" and "When a plan is refused").
 use mathlib.Core.Bool.{Bool, _&&_, _||_, not}
 use mathlib.Core.List.{List, [], _∷_}
-use Prim.Native.Nat.{ℕ, _+_, _/_, _%_, _^_}
+use Prim.Native.Nat.{ℕ, _+_, _%_, _^_}
 use lib.Dec.{eqb, leb, ltb}
 use lib.ListN.{length}
 use Rattle.records.specs.Stages.{unless, firstOf, stage, every, pairs}
@@ -10,11 +10,11 @@ use Rattle.item.specs.Items.{Fields, items, ranged, end}
 
 -- 1: "a list .. of broken length, over-long"; "A list holds 0 to 65,536 records"
 abbrev pub listSized : List ℕ → Bool
-listSized list = eqb (length list % 70) 0 && leb (length list / 70) 65536
+listSized list = eqb (length list % 70) 0 && leb (length (items list)) 65536
 
 -- 1: "a shared byte not 0 or 1, or the shared bytes not one a record"
-abbrev pub sharedSound : List ℕ → List ℕ → Bool
-sharedSound shared list = eqb (length shared) (length list / 70) && every (λ (b : ℕ). leb b 1) shared
+abbrev pub sharedSound : List ℕ → List Fields → Bool
+sharedSound shared fs = eqb (length shared) (length fs) && every (λ (b : ℕ). leb b 1) shared
 
 -- "length is at least 1, key + length is at most 2^63, position + length fits 64 bits"
 abbrev pub rangeSound : Fields → Bool

@@ -44,7 +44,7 @@ fn shared_bytes_refusal(shared: &[u8]) -> u8
 
 // Refusal 1 of the shared bytes: not one a record, or one that is neither 0 nor 1.
 pub fn shared_refusal(shared: &[u8], list: &[u8]) -> u8
-    ensures { λ r. ⌜ r ≡ unless (sharedSound (now (shared .entry)) (now (list .entry))) 1 ⌝ }
+    ensures { λ r. ⌜ r ≡ unless (sharedSound (now (shared .entry)) (items (now (list .entry)))) 1 ⌝ }
 {
     first(
         unless(shared.len() == list.len() / 70, 1),

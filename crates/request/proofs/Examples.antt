@@ -13,7 +13,7 @@ use Rattle.lists.specs.Lists.{wellKept}
 use Rattle.table.specs.Rows.{rows, rowOf, tableKept}
 use Rattle.request.specs.declared.Volume.{Volume}
 use Rattle.request.specs.declared.File.{File}
-use Rattle.request.specs.Lent.{lentRefusal, lentRefusal2}
+use Rattle.request.specs.Lent.{lentRefusal, lentRefusal2, lent, lent2}
 
 volume : ℕ → Volume
 volume sector = record { sector = sector; total = 1073741824; generation = 7; snapshot = 0 }
@@ -29,10 +29,10 @@ row : (start keyed : ℕ) → List ℕ
 row start keyed = start ∷ 16384 ∷ 1 ∷ 5 ∷ keyed ∷ []
 
 one : (sector size : ℕ) (list shared table : List ℕ) → ℕ
-one sector size list shared table = lentRefusal (volume sector) (file 257 size) list shared table
+one sector size list shared table = lent (volume sector) (file 257 size) list shared table
 
 two : (number : ℕ) → Bool → (source : List ℕ) → ℕ
-two number own source = lentRefusal2 (volume 4096) (file 257 0) (file number 0) own [] [] source []
+two number own source = lent2 (volume 4096) (file 257 0) (file number 0) own [] [] source []
 
 -- what is given, and what is due
 cases : List (ℕ × ℕ)

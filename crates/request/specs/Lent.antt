@@ -1,12 +1,14 @@
 -- What a request is lent, and refusals 1 to 4 of it in the paper's order (document 01, "When a plan is refused").
 use mathlib.Core.Bool.{Bool, _||_, not}
 use mathlib.Core.List.{List, [], _∷_}
-use Prim.Native.Nat.{ℕ, _^_}
-use lib.Dec.{eqb, ltb}
-use Rattle.records.specs.Stages.{unless, firstOf, every}
-use Rattle.item.specs.Items.{items}
-use Rattle.lists.specs.Lists.{listSized, sharedSound, wellKept, whole}
-use Rattle.table.specs.Rows.{rows, tableSized, tableKept}
+use Prim.Native.Nat.{ℕ, _%_, _^_}
+use lib.Dec.{eqb, leb, ltb}
+use lib.ListN.{length}
+use Rattle.records.specs.Stages.{unless, first, firstOf, every}
+use Rattle.item.specs.Items.{Fields, items}
+use Rattle.lists.specs.Lists.{sharedSound, wellKept, whole}
+use Rattle.table.specs.declared.Row.{Row}
+use Rattle.table.specs.Rows.{rows, tableKept}
 use Rattle.request.specs.declared.Volume.{Volume}
 use Rattle.request.specs.declared.File.{File}
 
@@ -18,36 +20,51 @@ sectorSound s = eqb s (2 ^ 12) || (eqb s (2 ^ 13) || (eqb s (2 ^ 14) || (eqb s (
 abbrev pub sizeSound : ℕ → Bool
 sizeSound size = ltb size (2 ^ 63)
 
--- of one file's list: what is lent of a punch and a fallocate
-unfoldable pub lentRefusal : Volume → File → (list shared table : List ℕ) → ℕ
-lentRefusal v f list shared table =
+-- of one file: what a punch and a fallocate are lent, as items and rows
+unfoldable pub lentRefusal : Volume → File → List Fields → (shared : List ℕ) → List Row → ℕ
+lentRefusal v f fs shared rs =
     firstOf
-    (unless (listSized list) 1
-    ∷ unless (sharedSound shared list) 1
-    ∷ unless (tableSized table) 1
-    ∷ unless (wellKept (f .number) (items list)) 2
-    ∷ unless (tableKept (rows table)) 3
+    (unless (leb (length fs) 65536) 1
+    ∷ unless (sharedSound shared fs) 1
+    ∷ unless (leb (length rs) 65536) 1
+    ∷ unless (wellKept (f .number) fs) 2
+    ∷ unless (tableKept rs) 3
     ∷ unless (sectorSound (v .sector)) 4
     ∷ unless (sizeSound (f .size)) 4
-    ∷ unless (every (whole (v .sector)) (items list)) 4
+    ∷ unless (every (whole (v .sector)) fs) 4
     ∷ [])
 
--- of a clone's two lists, the destination's first; own: the source is the destination itself. Otherwise "a second
+-- of a clone's two files, the destination's list first; own: the source is the destination itself. Otherwise "a second
 -- list of its number gives 2"
-unfoldable pub lentRefusal2 : Volume → (dst src : File) → Bool → (list shared source table : List ℕ) → ℕ
-lentRefusal2 v dst src own list shared source table =
+unfoldable pub lentRefusal2 : Volume → (dst src : File) → Bool → List Fields → (shared : List ℕ) → (source : List Fields) → List Row → ℕ
+lentRefusal2 v dst src own fs shared source rs =
     firstOf
-    (unless (listSized source) 1
-    ∷ unless (listSized list) 1
-    ∷ unless (sharedSound shared list) 1
-    ∷ unless (tableSized table) 1
-    ∷ unless (wellKept (dst .number) (items list)) 2
-    ∷ unless (wellKept (src .number) (items source)) 2
+    (unless (leb (length source) 65536) 1
+    ∷ unless (leb (length fs) 65536) 1
+    ∷ unless (sharedSound shared fs) 1
+    ∷ unless (leb (length rs) 65536) 1
+    ∷ unless (wellKept (dst .number) fs) 2
+    ∷ unless (wellKept (src .number) source) 2
     ∷ unless (own || not (eqb (src .number) (dst .number))) 2
-    ∷ unless (tableKept (rows table)) 3
+    ∷ unless (tableKept rs) 3
     ∷ unless (sectorSound (v .sector)) 4
     ∷ unless (sizeSound (dst .size)) 4
     ∷ unless (sizeSound (src .size)) 4
-    ∷ unless (every (whole (v .sector)) (items list)) 4
-    ∷ unless (every (whole (v .sector)) (items source)) 4
+    ∷ unless (every (whole (v .sector)) fs) 4
+    ∷ unless (every (whole (v .sector)) source) 4
     ∷ [])
+
+-- 1: "a list or table of broken length"
+abbrev pub listBroken : List ℕ → ℕ
+listBroken list = unless (eqb (length list % 70) 0) 1
+
+abbrev pub tableBroken : List ℕ → ℕ
+tableBroken table = unless (eqb (length table % 5) 0) 1
+
+-- from the bytes that are lent
+abbrev pub lent : Volume → File → (list shared table : List ℕ) → ℕ
+lent v f list shared table = first (first (listBroken list) (tableBroken table)) (lentRefusal v f (items list) shared (rows table))
+
+abbrev pub lent2 : Volume → (dst src : File) → Bool → (list shared source table : List ℕ) → ℕ
+lent2 v dst src own list shared source table =
+    first (first (listBroken source) (first (listBroken list) (tableBroken table))) (lentRefusal2 v dst src own (items list) shared (items source) (rows table))

@@ -22,7 +22,7 @@ fours2 sector size size2 list source =
 
 -- 1 of a list, its shared bytes and the table
 abbrev pub ones : List ℕ → List ℕ → List ℕ → ℕ
-ones list shared table = first (unless (listSized list) 1) (first (unless (sharedSound shared list) 1) (unless (tableSized table) 1))
+ones list shared table = first (unless (listSized list) 1) (first (unless (sharedSound shared (items list)) 1) (unless (tableSized table) 1))
 
 -- 2 of two lists
 abbrev pub twos : ℕ → ℕ → Bool → List ℕ → List ℕ → ℕ

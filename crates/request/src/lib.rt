@@ -4,7 +4,7 @@ use records::first;
 use records::unless;
 ghost use mathlib.Core.Path.{_≡_};
 ghost use Rattle.records.specs.Stages.{unless};
-ghost use Rattle.request.specs.Lent.{sectorSound, sizeSound, lentRefusal, lentRefusal2};
+ghost use Rattle.request.specs.Lent.{sectorSound, sizeSound, lent, lent2};
 ghost use Rattle.request.specs.Raw.{fours, fours2, ones, twos};
 ghost use Rattle.request.specs.Answers.{numberOf};
 
@@ -134,7 +134,7 @@ fn twos(number: u64, number2: u64, own: bool, list: &[u8], source: &[u8]) -> u8
 
 // Refusals 1 to 4 of what a punch or a fallocate is lent.
 pub fn lent_refusal(v: Volume, f: File, list: &[u8], shared: &[u8], table: &[u64]) -> u8
-    ensures { λ r. ⌜ r ≡ lentRefusal v f (now (list .entry)) (now (shared .entry)) (now (table .entry)) ⌝ }
+    ensures { λ r. ⌜ r ≡ lent v f (now (list .entry)) (now (shared .entry)) (now (table .entry)) ⌝ }
 {
     let kept = first(
         lists::list_refusal(list, f.number),
@@ -157,7 +157,7 @@ pub fn lent_refusal2(
     source: &[u8],
     table: &[u64],
 ) -> u8
-    ensures { λ r. ⌜ r ≡ lentRefusal2 v dst src own (now (list .entry)) (now (shared .entry)) (now (source .entry)) (now (table .entry)) ⌝ }
+    ensures { λ r. ⌜ r ≡ lent2 v dst src own (now (list .entry)) (now (shared .entry)) (now (source .entry)) (now (table .entry)) ⌝ }
 {
     let sizes = first(lists::list_size_refusal(source), ones(list, shared, table));
     let kept = first(

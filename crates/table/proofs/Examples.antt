@@ -7,6 +7,7 @@ use lib.Dec.{eqb}
 use lib.ListN.{length}
 use Rattle.records.specs.Records.{chunks, records}
 use Rattle.records.specs.Stages.{unless, every, neighbours}
+use Rattle.table.proofs.Laws.{rows-length}
 use Rattle.table.specs.Rows.{rowOf, rows, tableSized, tableKept, findFrom, find, oneMoreReference}
 use Rattle.table.specs.Windows.{windowInside}
 use Rattle.table.specs.declared.Row.{Row}
@@ -78,7 +79,7 @@ all-right = refl
 
 -- 65,536 rows are allowed, and no more
 most-rows : (t : List ℕ) → length t ≡ 65536 * 5 → unless (tableSized t) 1 ≡ 0
-most-rows t h = rw h refl
+most-rows t h = rw (rows-length, h) refl
 
 more-rows : (t : List ℕ) → length t ≡ 65537 * 5 → unless (tableSized t) 1 ≡ 1
-more-rows t h = rw h refl
+more-rows t h = rw (rows-length, h) refl

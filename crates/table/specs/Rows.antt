@@ -2,7 +2,7 @@
 -- length (not 0; their sum fits and does not pass the next row's start), references, generation made, keyed (0 or 1)".
 use mathlib.Core.Bool.{Bool, cond, _&&_, not}
 use mathlib.Core.List.{List, [], _∷_}
-use Prim.Native.Nat.{ℕ, _+_, _%_, _/_, _^_, _<_, _≤_}
+use Prim.Native.Nat.{ℕ, _+_, _%_, _^_}
 use lib.Dec.{eqb, leb, ltb}
 use lib.ListN.{length, getD}
 use Rattle.records.specs.Records.{records}
@@ -20,7 +20,7 @@ rows t = records rowOf 5 t
 
 -- refusal 1: "a list or table of broken length, over-long"; "The extents table has 0 to 65,536 rows"
 abbrev pub tableSized : List ℕ → Bool
-tableSized t = eqb (length t % 5) 0 && leb (length t / 5) 65536
+tableSized t = eqb (length t % 5) 0 && leb (length (rows t)) 65536
 
 -- one row: start and length are not 0, "their sum fits", keyed is 0 or 1
 abbrev pub rowSound : Row → Bool

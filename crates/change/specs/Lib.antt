@@ -1,0 +1,4 @@
+pub mod Rounding
+pub mod Preallocs
+pub mod Rewrites
+pub mod Changes

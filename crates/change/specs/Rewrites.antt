@@ -1,0 +1,94 @@
+-- Sectors rewritten with a part zeroed: "A rewrite held by a preallocated item is written in place as regular; any other
+-- takes a new extent of one sector." (`rewritten_bytes`, `written_in_place`, fallocate.rs)
+use mathlib.Core.Bool.{Bool, cond, _&&_, not}
+use mathlib.Core.List.{List, [], _∷_, map, flatMap}
+use mathlib.Core.Option.{Option, none, some}
+use Prim.Native.Nat.{ℕ, _+_, _-_}
+use lib.Dec.{eqb, ltb}
+use Rattle.records.specs.Stages.{unless, first, firstOf}
+use Rattle.records.specs.Select.{keep}
+use Rattle.item.specs.Items.{Fields, writtenInPlace}
+use Rattle.table.specs.declared.Row.{Row}
+use Rattle.table.specs.Rows.{find, withRow}
+use Rattle.table.specs.Windows.{windowInside}
+use Rattle.cut.specs.Mappings.{holds}
+use Rattle.cut.specs.Refs.{naming}
+use Rattle.refs.specs.Drops.{Held}
+use Rattle.plan.specs.Plans.{Write}
+
+-- a sector of the file, and the offsets of it to zero
+pub record Rewrite : Type 0 where
+  pub sector : ℕ
+  pub first : ℕ
+  pub end : ℕ
+
+-- what a change of one file goes by: the sector, the current generation, the last snapshot, nodatacow, the file's number,
+-- its items with their shared bytes, and the table
+pub record Ground : Type 0 where
+  pub sector : ℕ
+  pub generation : ℕ
+  pub snapshot : ℕ
+  pub nodatacow : Bool
+  pub file : ℕ
+  pub held : List Held
+  pub rows : List Row
+
+abbrev pub itemsHeld : List Held → List Fields
+itemsHeld hs = map (λ (h : Held). h .item) hs
+
+-- "current generation (new is 1 more)"
+abbrev pub newGeneration : Ground → ℕ
+newGeneration g = g .generation + 1
+
+-- the item that holds an offset, with its shared byte
+unfoldable pub holderOf : ℕ → List Held → Option Held
+holderOf o [] = none
+holderOf o (h ∷ hs) = cond (holds o (h .item)) (some h) (holderOf o hs)
+
+abbrev pub whenHeld : {A : Type 0} → Option Held → A → (Held → A) → A
+whenHeld none a f = a
+whenHeld (some h) a f = f h
+
+-- the preallocated item that holds a rewrite's sector, if one does: then it is written in place
+abbrev pub preallocated : Ground → Rewrite → Option Held
+preallocated g r = whenHeld (holderOf (r .sector) (g .held)) none (λ (h : Held). cond (eqb (h .item .kind) 2) (some h) none)
+
+abbrev pub inPlace : Ground → Rewrite → Bool
+inPlace g r = whenHeld (preallocated g r) Bool.false (λ (h : Held). Bool.true)
+
+-- the sector's position in its extent, by the item that holds it
+abbrev pub positionOf : Rewrite → Held → ℕ
+positionOf r h = h .item .position + (r .sector - h .item .key)
+
+-- in place 14, 17, 18: "17 .. in place, compressed ones too. 18: references differ from this file's items naming the
+-- extent, or made is not after the last snapshot, or the leaf is shared"
+abbrev pub inPlaceRefusal : Ground → Rewrite → Held → ℕ
+inPlaceRefusal g r h =
+    withRow (find (h .item .extentStart) (g .rows))
+    (λ (row : Row).
+    firstOf
+    (unless (windowInside (h .item .extentStart + positionOf r h) (g .sector) (h .item .extentStart) (row .length)) 17
+    ∷ unless (eqb (row .references) (naming (h .item .extentStart) (itemsHeld (g .held))) && (ltb (g .snapshot) (row .made) && eqb (h .shared) 0)) 18
+    ∷ []))
+
+-- "for each rewrite 16, nodatacow with a regular holder, else in place 14, 17, 18"
+abbrev pub rewriteRefusal : Ground → Rewrite → ℕ
+rewriteRefusal g r =
+    whenHeld (holderOf (r .sector) (g .held)) 0
+    (λ (h : Held).
+    first (unless (not (g .nodatacow && eqb (h .item .kind) 1)) 16) (cond (eqb (h .item .kind) 2) (inPlaceRefusal g r h) 0))
+
+-- a rewrite in place: the item over it, its extent, and the write
+abbrev pub itemInPlace : Ground → Rewrite → Held → Fields
+itemInPlace g r h = writtenInPlace (h .item) (r .sector) (newGeneration g) (positionOf r h) (g .sector)
+
+abbrev pub writeInPlace : Rewrite → Held → Write
+writeInPlace r h = record { key = r .sector; at = h .item .extentStart + positionOf r h; first = r .first; end = r .end }
+
+-- of all rewrites in place, in order
+unfoldable pub eachInPlace : {A : Type 0} → Ground → (Rewrite → Held → A) → List Rewrite → List A
+eachInPlace g f rs = flatMap (λ (r : Rewrite). whenHeld (preallocated g r) [] (λ (h : Held). f r h ∷ [])) rs
+
+-- the rewrites that take a new extent
+abbrev pub rewrittenAnew : Ground → List Rewrite → List Rewrite
+rewrittenAnew g rs = keep (λ (r : Rewrite). not (inPlace g r)) rs

@@ -1,0 +1,1 @@
+// The operation follows; its definition is in specs/.

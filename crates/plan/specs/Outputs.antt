@@ -1,0 +1,49 @@
+-- How a plan lies in the lent outputs, and refusal 27.
+use mathlib.Core.Bool.{Bool, _&&_}
+use mathlib.Core.List.{List, [], _∷_, _++_, flatMap}
+use Prim.Native.Nat.{ℕ, _/_}
+use lib.Dec.{leb}
+use lib.ListN.{length, replicate}
+use Rattle.endian.specs.Le.{enc, put}
+use Rattle.item.specs.Items.{encode}
+use Rattle.cut.specs.Refs.{Ref}
+use Rattle.cut.specs.Edits.{Edit, put as putItem, delete}
+use Rattle.plan.specs.Plans.{Plan, Add, Write}
+
+-- the lengths of the outputs that a call is lent: edits in bytes, the others in numbers
+pub record Rooms : Type 0 where
+  pub edits : ℕ
+  pub shares : ℕ
+  pub unrefs : ℕ
+  pub releases : ℕ
+  pub adds : ℕ
+  pub writes : ℕ
+
+-- 27: "an output is too short for the plan": it holds as many whole records as fit
+abbrev pub roomFor : Rooms → Plan → Bool
+roomFor rooms p =
+    leb (length (p .edits)) (rooms .edits / 71)
+    && (leb (length (p .shares)) (rooms .shares / 2)
+    && (leb (length (p .unrefs)) (rooms .unrefs / 2)
+    && (leb (length (p .releases)) (rooms .releases / 2)
+    && (leb (length (p .adds)) (rooms .adds / 3)
+    && leb (length (p .writes)) (rooms .writes / 4)))))
+
+-- an edit is a byte, 1 for put and 2 for delete, and a record; of a delete the record has the file's number, type 108,
+-- the key, and zeros
+abbrev pub editBytes : ℕ → Edit → List ℕ
+editBytes file (putItem f) = 1 ∷ encode f
+editBytes file (delete k) = 2 ∷ enc 8 file ++ enc 1 108 ++ enc 8 k ++ replicate 53 0
+
+abbrev pub refNumbers : Ref → List ℕ
+refNumbers r = r .start ∷ r .offset ∷ []
+
+abbrev pub addNumbers : Add → List ℕ
+addNumbers a = a .start ∷ a .length ∷ a .key ∷ []
+
+abbrev pub writeNumbers : Write → List ℕ
+writeNumbers w = w .key ∷ w .at ∷ w .first ∷ w .end ∷ []
+
+-- a part of a plan over an output from its start; "Output past the plan keeps its bytes."
+abbrev pub laid : {A : Type 0} → (A → List ℕ) → List A → List ℕ → List ℕ
+laid f parts out = put (flatMap f parts) 0 out
