@@ -1,3 +1,6 @@
-pub mod Applied
+pub mod Mappings
+pub mod Kept
 pub mod Counts
 pub mod Bytes
+pub mod Applied
+pub mod Examples

@@ -1,0 +1,64 @@
+-- Plans applied, computed: planned ones, and ones that no planner makes.
+use mathlib.Core.Path.{_≡_, refl}
+use mathlib.Core.Bool.{Bool, true, false}
+use mathlib.Core.List.{List, [], _∷_, map, flatMap}
+use Prim.Native.Nat.{ℕ, _-_, _^_}
+use Rattle.records.specs.Stages.{first, firstOf, stage, every, pairs, neighbours}
+use Rattle.records.specs.Select.{keep, any, count}
+use Rattle.item.specs.Items.{Fields, regularItem, windowed}
+use Rattle.table.specs.declared.Row.{Row}
+use Rattle.table.specs.Rows.{tableKept, findFrom}
+use Rattle.lists.specs.Lists.{wellKept}
+use Rattle.cut.specs.Pieces.{insert, insertAll}
+use Rattle.cut.specs.Edits.{Edit, put, delete, itemsAfter}
+use Rattle.cut.specs.Refs.{Ref}
+use Rattle.plan.specs.Plans.{Plan, Add}
+use Rattle.apply.specs.Apply.{insertRow, insertRows, rowsAfter, applyRefusal, Applying, applied, refusal, apply}
+
+part : (key position length : ℕ) → Fields
+part key position length = windowed (regularItem 257 0 7 1048576 16384) 257 key position length
+
+row : (start references made : ℕ) → Row
+row start references made = record { start = start; length = 16384; references = references; made = made; keyed = 0 }
+
+ref : (start : ℕ) → Ref
+ref start = record { start = start; offset = 0 }
+
+-- a plan of these parts, applied to one item of one extent with so many references
+ask : (references : ℕ) (edits : List Edit) (shares unrefs releases : List Ref) (adds : List Add) → Applying
+ask references edits shares unrefs releases adds =
+    apply 4096 257 8 10 10 (part 0 0 16384 ∷ []) (row 1048576 references 5 ∷ [])
+    (record { edits = edits; shares = shares; unrefs = unrefs; releases = releases; adds = adds; writes = []; size = 0; bytes = 0; prealloc = false })
+
+-- what is asked, and what is due
+cases : List (Applying × Applying)
+cases =
+    -- nothing; a punch in the middle; a release; an add
+    (ask 1 [] [] [] [] [], applied (part 0 0 16384 ∷ []) (row 1048576 1 5 ∷ []))
+    ∷ (ask 1 (put (part 0 0 4096) ∷ put (part 8192 8192 8192) ∷ []) (ref 1048576 ∷ []) [] [] [], applied (part 0 0 4096 ∷ part 8192 8192 8192 ∷ []) (row 1048576 2 5 ∷ []))
+    ∷ (ask 1 (delete 0 ∷ []) [] [] (ref 1048576 ∷ []) [], applied [] [])
+    ∷ (ask 1 (delete 0 ∷ put (regularItem 257 16384 8 4194304 16384) ∷ []) [] (ref 1048576 ∷ []) [] (record { start = 4194304; length = 16384; key = 16384 } ∷ []), applied (regularItem 257 16384 8 4194304 16384 ∷ []) (row 1048576 0 5 ∷ row 4194304 1 8 ∷ []))
+    -- a row that any release names goes, even if shares name it too; unrefs alone leave it
+    ∷ (ask 1 [] (ref 1048576 ∷ []) [] (ref 1048576 ∷ []) [], applied (part 0 0 16384 ∷ []) [])
+    ∷ (ask 1 [] [] (ref 1048576 ∷ []) [] [], applied (part 0 0 16384 ∷ []) (row 1048576 0 5 ∷ []))
+    -- deleting a key that is not there does nothing
+    ∷ (ask 1 (delete 4096 ∷ []) [] [] [] [], applied (part 0 0 16384 ∷ []) (row 1048576 1 5 ∷ []))
+    -- 14: a line without a row, before 3: a net count below zero or past 64 bits
+    ∷ (ask 0 [] [] (ref 1 ∷ ref 1048576 ∷ []) [] [], refusal 14)
+    ∷ (ask 0 [] [] (ref 1048576 ∷ []) [] [], refusal 3)
+    ∷ (ask 1 [] [] (ref 1048576 ∷ ref 1048576 ∷ []) [] [], refusal 3)
+    ∷ (ask (2 ^ 64 - 1) [] (ref 1048576 ∷ []) [] [] [], refusal 3)
+    ∷ (ask (2 ^ 64 - 1) [] (ref 1048576 ∷ []) (ref 1048576 ∷ []) [] [], applied (part 0 0 16384 ∷ []) (row 1048576 (2 ^ 64 - 1) 5 ∷ []))
+    -- a broken result: a list that overlaps or is of another file, or not whole sectors (2); a table that overlaps (3)
+    ∷ (ask 1 (put (part 4096 4096 4096) ∷ []) [] [] [] [], refusal 2)
+    ∷ (ask 1 (put (regularItem 258 16384 8 4194304 16384) ∷ []) [] [] [] [], refusal 2)
+    ∷ (ask 1 (put (part 16384 0 100) ∷ []) [] [] [] [], refusal 2)
+    ∷ (ask 1 [] [] [] [] (record { start = 1052672; length = 4096; key = 0 } ∷ []), refusal 3)
+    -- edits that do not rise by key
+    ∷ (ask 1 (delete 4096 ∷ delete 0 ∷ []) [] [] [] [], refusal 2)
+    ∷ (ask 1 (delete 0 ∷ delete 0 ∷ []) [] [] [] [], refusal 2)
+    ∷ []
+
+right : map (λ (c : Applying × Applying). c .0) cases ≡ map (λ (c : Applying × Applying). c .1) cases
+unfolding cases part row ref ask first firstOf stage every pairs neighbours keep any count flatMap tableKept findFrom wellKept insert insertAll itemsAfter insertRow insertRows rowsAfter applyRefusal apply
+right = refl
