@@ -1,0 +1,79 @@
+-- Demand 3, as one claim about the whole list of calls.
+use mathlib.Core.Bool.{Bool, true, cond}
+use mathlib.Core.List.{List, [], _∷_}
+use mathlib.Core.Path.{_≡_}
+use Prim.Native.Nat.{ℕ, _+_, _≤_, _<_}
+use lib.Dec.{eqb}
+use Rattle.records.specs.Stages.{every}
+use Rattle.records.specs.Select.{count}
+use Rattle.lists.specs.Lists.{wellKept}
+use Rattle.cut.specs.Mappings.{mapping}
+use Rattle.cut.specs.Refs.{Ref, sameRef, referring}
+use Rattle.plan.specs.Plans.{Plan, Add}
+use Rattle.history.specs.States.{State, listOf, total, TrueTable}
+use Rattle.history.specs.Calls.{Call, Lent, Stretch, Applied, lentOf, changes, run, trace}
+
+-- 1: "lists once well kept still are"
+abbrev pub StayKept : State → State → Type 0
+StayKept before after = (n : ℕ) → wellKept n (listOf n (before .files)) ≡ true → wellKept n (listOf n (after .files)) ≡ true
+
+-- an offset outside what a call may change
+abbrev pub Outside : ℕ → List Stretch → Type 0
+Outside o [] = Unit {0}
+Outside o (s ∷ ss) = (s .from ≤ o → o < s .to → ⊥) × Outside o ss
+
+-- 2: "each plan applied has kept extent and position at all offsets outside both the changed range, widened to sectors, and
+-- the old end's sector"; "other files keep all". How the bytes there are read (kind, compression, encoding) is kept too
+pub record MappingsKept (sector : ℕ) (a : Applied) : Type 0 where
+  pub outside : (o : ℕ) → Outside o (changes sector (a .call)) → mapping o (listOf (lentOf (a .call) .number) (a .after .files)) ≡ mapping o (listOf (lentOf (a .call) .number) (a .before .files))
+  pub others : (n : ℕ) → (n ≡ lentOf (a .call) .number → ⊥) → listOf n (a .after .files) ≡ listOf n (a .before .files)
+
+-- for each plan applied
+abbrev pub Each : (Applied → Type 0) → List Applied → Type 0
+Each P [] = Unit {0}
+Each P (a ∷ l) = P a × Each P l
+
+-- lines of all plans applied to a file: "A plan's lines count for the file it changes, an add with its key as reference
+-- offset"
+abbrev pub addRef : Add → Ref
+addRef a = record { start = a .start; offset = a .key }
+
+abbrev pub plus : Ref → Plan → ℕ
+plus r p = count (λ (q : Ref). sameRef q r) (p .shares) + count (λ (a : Add). sameRef (addRef a) r) (p .adds)
+
+abbrev pub minus : Ref → Plan → ℕ
+minus r p = count (λ (q : Ref). sameRef q r) (p .unrefs) + count (λ (q : Ref). sameRef q r) (p .releases)
+
+unfoldable pub sumFor : (Plan → ℕ) → ℕ → List Applied → ℕ
+sumFor f n [] = 0
+sumFor f n (a ∷ l) = cond (eqb (lentOf (a .call) .number) n) (f (a .plan)) 0 + sumFor f n l
+
+-- 3: "for each file, extent and reference offset, the file's items naming them are as many as in the starting lists, plus
+-- shares and new extents, minus unrefs and releases, of all plans applied"
+abbrev pub Balanced : State → State → List Applied → Type 0
+Balanced before after l =
+    (n : ℕ) (r : Ref)
+    → referring r (listOf n (after .files)) + sumFor (minus r) n l ≡ referring r (listOf n (before .files)) + sumFor (plus r) n l
+
+-- "and each of these released an extent exactly when it brought that total to zero"
+abbrev pub lineAt : ℕ → Plan → ℕ
+lineAt start p = count (λ (q : Ref). eqb (q .start) start) (p .releases)
+
+pub record ReleasedAtZero (a : Applied) : Type 0 where
+  pub only : (start : ℕ) → 0 < lineAt start (a .plan) → (0 < total start (a .before .files)) × (total start (a .after .files) ≡ 0)
+  pub always : (start : ℕ) → 0 < total start (a .before .files) → total start (a .after .files) ≡ 0 → 0 < lineAt start (a .plan)
+
+-- "no leaf was marked shared": "No leaf is marked shared if no shared byte lent is ever 1."
+abbrev pub unmarked : Call → Bool
+unmarked c = every (λ (b : ℕ). eqb b 0) (lentOf c .shared)
+
+pub record CountsTrue (before after : State) (l : List Applied) : Type 0 where
+  pub balanced : Balanced before after l
+  pub released : Each ReleasedAtZero l
+  pub table : TrueTable after
+
+-- the claim
+pub record Demand3 (sector : ℕ) (s : State) (cs : List Call) : Type 0 where
+  pub kept : StayKept s (run sector s cs)
+  pub mappings : Each (MappingsKept sector) (trace sector s cs)
+  pub counts : TrueTable s → every unmarked cs ≡ true → CountsTrue s (run sector s cs) (trace sector s cs)
