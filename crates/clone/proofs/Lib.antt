@@ -1,1 +1,4 @@
 pub mod Examples
+pub mod Planned
+pub mod Items
+pub mod Laws

@@ -68,6 +68,21 @@ module _ {A : Type 0} where
   count-same p q h [] = refl
   count-same p q h (a ∷ l) = rw (h a) (ap (λ (n : ℕ). cond (q a) 1 0 + n) (count-same p q h l))
 
+  -- two tests that are equal where another holds
+  pub count-where : (u p q : A → Bool) → ((a : A) → u a ≡ true → p a ≡ q a) → (l : List A) → every u l ≡ true → count p l ≡ count q l
+  unfolding count every
+  count-where u p q f [] h = refl
+  count-where u p q f (a ∷ l) h = rw (f a (both-left (u a) (every u l) h)) (ap (λ (n : ℕ). cond (q a) 1 0 + n) (count-where u p q f l (both-right (u a) (every u l) h)))
+
+  -- two tests of which no more than one holds, and a third with either
+  pub count-apart : (u p q r : A → Bool) → ((a : A) → u a ≡ true → cond (p a) 1 0 + cond (q a) 1 0 ≤ cond (r a) 1 0) → (l : List A) → every u l ≡ true → count p l + count q l ≤ count r l
+  unfolding count every
+  count-apart u p q r f [] h = omega arith
+  count-apart u p q r f (a ∷ l) h =
+      let x = f a (both-left (u a) (every u l) h) in
+      let y = count-apart u p q r f l (both-right (u a) (every u l) h) in
+      omega arith
+
   -- some pass: one does
   pub count-any : (p : A → Bool) (l : List A) → 0 < count p l → any p l ≡ true
   unfolding count any

@@ -8,7 +8,7 @@ use native.Mathlib.Omega.{arith}
 use native.Mathlib.Decide.{ℕ-discrete}
 use lib.Dec.{eqb, leb, ltb}
 use lib.ListN.{length, getD}
-use borrow.Author.Tests.{eqb-true, eq-eqb, ne-eqb, leb-true, ltb-true, not-true}
+use borrow.Author.Tests.{eqb-true, eqb-false, eq-eqb, leb-true, ltb-true, not-true}
 use Rattle.records.specs.Stages.{unless, first, firstOf, every, pairs}
 use Rattle.records.proofs.Tests.{both, both-left, both-right, either, either-left, either-right, implied, first-zero, unless-zero, every-at, pairs-at}
 use Rattle.item.specs.Items.{Fields, ranged, end}
@@ -82,6 +82,14 @@ whole-facts sector f h r =
     let t = implied (ranged f) (eqb (f .key % sector) 0 && eqb (f .length % sector) 0) h r in
     (eqb-true (f .key % sector) 0 (both-left (eqb (f .key % sector) 0) (eqb (f .length % sector) 0) t), eqb-true (f .length % sector) 0 (both-right (eqb (f .key % sector) 0) (eqb (f .length % sector) 0) t))
 
+-- a kind that is neither inline nor over 2
+pub ranged-of : (f : Fields) → (f .kind ≡ 0 → ⊥) → f .kind ≤ 2 → ranged f ≡ true
+ranged-of f e l =
+    elim (ℕ-discrete (f .kind) 1) [
+      | yes p ↦ either-left (eqb (f .kind) 1) (eqb (f .kind) 2) (eq-eqb (f .kind) 1 p)
+      | no p ↦ either-right (eqb (f .kind) 1) (eqb (f .kind) 2) (eq-eqb (f .kind) 2 (omega arith))
+    ]
+
 -- a record that passes 7, 8 and 9 is of kind 1 or 2 and not encoded
 pub record Plain (f : Fields) : Type 0 where
   pub ranged : ranged f ≡ true
@@ -101,14 +109,7 @@ plain f h =
     let over = leb-true (f .kind) 2 (unless-zero (leb (f .kind) 2) 8 (y .0) (λ e. omega arith)) in
     let plain : (eqb (f .encryption) 0 && eqb (f .other) 0) ≡ true = unless-zero (eqb (f .encryption) 0 && eqb (f .other) 0) 9 (x .0) (λ e. omega arith) in
     record {
-      ranged = kinds (f .kind) inline over;
+      ranged = ranged-of f (eqb-false (f .kind) 0 inline) over;
       encryption = eqb-true (f .encryption) 0 (both-left (eqb (f .encryption) 0) (eqb (f .other) 0) plain);
       other = eqb-true (f .other) 0 (both-right (eqb (f .encryption) 0) (eqb (f .other) 0) plain);
     }
-  where
-    kinds : (k : ℕ) → eqb k 0 ≡ false → k ≤ 2 → (eqb k 1 || eqb k 2) ≡ true
-    kinds k e l =
-        elim (ℕ-discrete k 1) [
-          | yes p ↦ either-left (eqb k 1) (eqb k 2) (eq-eqb k 1 p)
-          | no p ↦ either-right (eqb k 1) (eqb k 2) (eq-eqb k 2 (omega (arith, borrow.Author.Tests.eqb-false k 0 e)))
-        ]

@@ -1,13 +1,14 @@
 -- The laws of tests and stages. Assumes nothing.
 use mathlib.Core.Path.{_≡_, refl, ap, _∙_, sym}
 use mathlib.Core.Bool.{Bool, true, false, cond, _&&_, _||_, not, false≢true}
-use mathlib.Core.List.{List, [], _∷_}
+use mathlib.Core.List.{List, [], _∷_, map}
 use mathlib.Core.Logic.{_⊎_, inl, inr}
 use Prim.Native.Nat.{ℕ, zero, suc, _+_, _-_, _<_, _≤_}
 use native.Mathlib.Omega.{arith}
 use lib.Dec.{leb, ltb}
 use lib.ListN.{length, getD}
 use borrow.Author.Tests.{ltb-true, leb-true, le-leb, lt-ltb}
+use Rattle.records.specs.Select.{keep}
 use Rattle.records.specs.Stages.{unless, first, firstOf, stage, every, pairs, neighbours}
 
 -- ---- truth values
@@ -148,3 +149,56 @@ module _ {A : Type 0} where
       both (p r && q r) (every (λ (r : A). p r && q r) rs)
       (both (p r) (q r) (both-left (p r) (every p rs) h) (both-left (q r) (every q rs) k))
       (every-both p q rs (both-right (p r) (every p rs) h) (both-right (q r) (every q rs) k))
+
+-- every two pass both of two tests
+pub pairs-both : {A : Type 0} (p q : A → A → Bool) (l : List A) → pairs p l ≡ true → pairs q l ≡ true → pairs (λ (a c : A). p a c && q a c) l ≡ true
+unfolding pairs
+pairs-both p q [] h k = refl
+pairs-both p q (a ∷ l) h k =
+    both (every (λ c. p a c && q a c) l) (pairs (λ a c. p a c && q a c) l)
+    (every-both (p a) (q a) l (both-left (every (p a) l) (pairs p l) h) (both-left (every (q a) l) (pairs q l) k))
+    (pairs-both p q l (both-right (every (p a) l) (pairs p l) h) (both-right (every (q a) l) (pairs q l) k))
+
+-- of what passes, what is picked passes
+pub every-keep : {A : Type 0} (p pick : A → Bool) (l : List A) → every p l ≡ true → every p (keep pick l) ≡ true
+unfolding every keep
+every-keep p pick [] h = refl
+every-keep p pick (a ∷ l) h = go (pick a) (every-keep p pick l (both-right (p a) (every p l) h))
+  where
+    go : (b : Bool) → every p (keep pick l) ≡ true → every p (cond b (a ∷ keep pick l) (keep pick l)) ≡ true
+    go true ih = both (p a) (every p (keep pick l)) (both-left (p a) (every p l) h) ih
+    go false ih = ih
+
+-- ---- picked and changed
+
+-- what is picked by a test and changed passes another, if it does so one by one
+pub every-picked : {A B : Type 0} (u pick : A → Bool) (t : A → B) (q : B → Bool) → ((a : A) → u a ≡ true → pick a ≡ true → q (t a) ≡ true) → (l : List A) → every u l ≡ true → every q (map t (keep pick l)) ≡ true
+unfolding every keep
+every-picked u pick t q f [] h = refl
+every-picked u pick t q f (a ∷ l) h = go (pick a) refl (every-picked u pick t q f l (both-right (u a) (every u l) h))
+  where
+    go : (b : Bool) → pick a ≡ b → every q (map t (keep pick l)) ≡ true → every q (map t (cond b (a ∷ keep pick l) (keep pick l))) ≡ true
+    go true e ih = both (q (t a)) (every q (map t (keep pick l))) (f a (both-left (u a) (every u l) h) e) ih
+    go false e ih = ih
+
+-- and every two of them
+pub pairs-picked :
+    {A B : Type 0} (u pick : A → Bool) (r : A → A → Bool) (t : A → B) (q : B → B → Bool)
+    → ((a c : A) → u a ≡ true → u c ≡ true → pick a ≡ true → pick c ≡ true → r a c ≡ true → q (t a) (t c) ≡ true)
+    → (l : List A) → every u l ≡ true → pairs r l ≡ true → pairs q (map t (keep pick l)) ≡ true
+unfolding every pairs keep
+pairs-picked u pick r t q f [] h k = refl
+pairs-picked u pick r t q f (a ∷ l) h k = go (pick a) refl (pairs-picked u pick r t q f l ul (both-right (every (r a) l) (pairs r l) k))
+  where
+    ua : u a ≡ true
+    ua = both-left (u a) (every u l) h
+
+    ul : every u l ≡ true
+    ul = both-right (u a) (every u l) h
+
+    go : (b : Bool) → pick a ≡ b → pairs q (map t (keep pick l)) ≡ true → pairs q (map t (cond b (a ∷ keep pick l) (keep pick l))) ≡ true
+    go true e ih =
+        both (every (q (t a)) (map t (keep pick l))) (pairs q (map t (keep pick l)))
+        (every-picked (λ c. u c && r a c) pick t (q (t a)) (λ c v p. f a c ua (both-left (u c) (r a c) v) e p (both-right (u c) (r a c) v)) l (every-both u (r a) l ul (both-left (every (r a) l) (pairs r l) k)))
+        ih
+    go false e ih = ih

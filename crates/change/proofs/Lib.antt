@@ -1,0 +1,5 @@
+pub mod Rounding
+pub mod Preallocs
+pub mod Rewrites
+pub mod Fair
+pub mod Examples
