@@ -1,5 +1,5 @@
 -- What an operation shows of each plan that it makes, so that the theorem over every list of calls holds of it: an
--- operation that is added later joins by these four laws. Assumes nothing.
+-- operation that is added later joins by these laws. Assumes nothing.
 use mathlib.Core.Bool.{Bool, true}
 use mathlib.Core.List.{List, List·Memᴰ}
 use mathlib.Core.Path.{_≡_}
@@ -13,6 +13,7 @@ use Rattle.cut.specs.Pieces.{itemsOf}
 use Rattle.cut.specs.Refs.{Ref, refPasses}
 use Rattle.cut.specs.Edits.{itemsAfter}
 use Rattle.plan.specs.Plans.{Plan, Add}
+use Rattle.apply.specs.Apply.{linesAt}
 use Rattle.history.specs.States.{State, listOf, withList, total, TrueTable}
 use Rattle.history.specs.Calls.{Call, lentOf, changes}
 use Rattle.history.specs.Claims.{Outside, addRef, lineAt, unmarked}
@@ -38,6 +39,8 @@ pub record Lawful (sector : ℕ) (s : State) (c : Call) (p : Plan) : Type 0 wher
       ≡ count (refPasses q) (itemsBefore s c) + (count q (p .shares) + count (λ (a : Add). q (addRef a)) (p .adds))
   -- a new extent has no row yet
   pub fresh : (a : Add) → List·Memᴰ a (p .adds) → find (a .start) (s .rows) ≡ Missing
+  -- what is shared was named before
+  pub shared : (start : ℕ) → 0 < linesAt start (p .shares) → 0 < total start (s .files)
   -- with a true table and no leaf marked shared: released exactly when the total falls to zero
   pub only : TrueTable s → unmarked c ≡ true → (start : ℕ) → 0 < lineAt start p → (0 < total start (s .files)) × (totalNow s c p start ≡ 0)
   pub always : TrueTable s → unmarked c ≡ true → (start : ℕ) → 0 < total start (s .files) → totalNow s c p start ≡ 0 → 0 < lineAt start p

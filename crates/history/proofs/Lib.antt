@@ -1,1 +1,3 @@
 pub mod Lawful
+pub mod Files
+pub mod Every
