@@ -54,19 +54,19 @@ span-some sector from length s =
     (λ a. omega arith) (λ a. omega arith) (λ a. omega arith) (λ a. omega arith) (λ a. omega arith) sector s
 
 module _ (v : Volume) (dst src : File) (own : Bool) (span : Span) (before : List Fields) (shared : List ℕ) (source : List Fields) (rs : List Row) (p : Plan) (h : Planned v dst src own span before shared source rs p) where
-  abbrev width′ : ℕ
+  abbrev pub width′ : ℕ
   width′ = W v dst src own span before shared source rs
 
-  abbrev top : ℕ
+  abbrev pub top : ℕ
   top = span .to + width′
 
-  abbrev copies : List Fields
+  abbrev pub copies : List Fields
   copies = cloned v dst src own span before shared source rs
 
-  abbrev after : List Piece
+  abbrev pub after : List Piece
   after = piecesAfter v dst src own span before shared source rs
 
-  accepted : Accepted v dst before shared rs
+  pub accepted : Accepted v dst before shared rs
   accepted = h .lent .destination
 
   pub width-some : 0 < width′
@@ -78,7 +78,7 @@ module _ (v : Volume) (dst src : File) (own : Bool) (span : Span) (before : List
   listKept : Kept (dst .number) before
   listKept = kept (dst .number) before (accepted .kept)
 
-  sourceKept : Kept (srcFile v dst src own span before shared source rs .number) (srcItems v dst src own span before shared source rs)
+  pub sourceKept : Kept (srcFile v dst src own span before shared source rs .number) (srcItems v dst src own span before shared source rs)
   sourceKept = kept _ _ (h .lent .«source-kept»)
 
   -- ---- the list

@@ -2,3 +2,4 @@ pub mod Examples
 pub mod Planned
 pub mod Items
 pub mod Laws
+pub mod References

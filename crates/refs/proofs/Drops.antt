@@ -34,6 +34,13 @@ held-items (f ∷ fs) (b ∷ bs) h = ap (λ (l : List Fields). f ∷ l) (held-it
 pub held-count : (p : Fields → Bool) (fs : List Fields) (bs : List ℕ) → length bs ≡ length fs → count (λ (h : Held). p (h .item)) (held fs bs) ≡ count p fs
 held-count p fs bs h = sym (count-map p (λ (h : Held). h .item) (held fs bs)) ∙ ap (count p) (held-items fs bs h)
 
+-- no byte is 1: no leaf is shared
+pub held-unshared : (fs : List Fields) (bs : List ℕ) → every (λ (b : ℕ). eqb b 0) bs ≡ true → every (λ (h : Held). eqb (h .shared) 0) (held fs bs) ≡ true
+unfolding held every
+held-unshared [] bs h = refl
+held-unshared (f ∷ fs) [] h = refl
+held-unshared (f ∷ fs) (b ∷ bs) h = both (eqb b 0) (every (λ (h : Held). eqb (h .shared) 0) (held fs bs)) (both-left (eqb b 0) (every (λ (b : ℕ). eqb b 0) bs) h) (held-unshared fs bs (both-right (eqb b 0) (every (λ (b : ℕ). eqb b 0) bs) h))
+
 pub held-length : (fs : List Fields) (bs : List ℕ) → length bs ≡ length fs → length (held fs bs) ≡ length fs
 unfolding held
 held-length [] bs h = refl
