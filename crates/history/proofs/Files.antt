@@ -1,16 +1,19 @@
 -- The laws of one list a file, of an extent's total, and of sums over the plans applied. Assumes nothing.
-use mathlib.Core.Path.{_≡_, refl, ap}
+use mathlib.Core.Path.{_≡_, refl, ap, _∙_, sym}
 use mathlib.Core.Bool.{Bool, true, false, cond}
 use mathlib.Core.List.{List, [], _∷_, _++_}
-use Prim.Native.Nat.{ℕ, _+_}
+use Prim.Native.Nat.{ℕ, _+_, _-_, _≤_, _<_}
 use native.Mathlib.Omega.{arith}
 use lib.Dec.{eqb}
 use borrow.Author.Tests.{eqb-true, eq-eqb, ne-eqb}
 use Rattle.records.specs.Select.{count}
 use Rattle.item.specs.Items.{Fields}
+use Rattle.table.specs.declared.Row.{Row}
+use Rattle.table.specs.declared.Found.the-variants.{At}
+use Rattle.table.specs.Rows.{find}
 use Rattle.cut.specs.Refs.{naming}
 use Rattle.plan.specs.Plans.{Plan}
-use Rattle.history.specs.States.{FileList, listOf, withList, total}
+use Rattle.history.specs.States.{FileList, State, listOf, withList, total, TrueTable}
 use Rattle.history.specs.Calls.{Applied}
 use Rattle.history.specs.Claims.{Each, sumFor}
 
@@ -56,3 +59,43 @@ pub sum-append : (f : Plan → ℕ) (n : ℕ) (l m : List Applied) → sumFor f 
 unfolding sumFor
 sum-append f n [] m = omega arith
 sum-append f n (a ∷ l) m = omega (arith, sum-append f n l m)
+
+-- ---- a part of the total
+
+-- one file's items are among all
+pub total-one : (n start : ℕ) (fs : List FileList) → naming start (listOf n fs) ≤ total start fs
+unfolding listOf total count
+total-one n start [] = omega arith
+total-one n start (f ∷ fs) = go (eqb (f .number) n) (total-one n start fs)
+  where
+    go : (b : Bool) → naming start (listOf n fs) ≤ total start fs → naming start (cond b (f .items) (listOf n fs)) ≤ naming start (f .items) + total start fs
+    go true ih = omega arith
+    go false ih = omega arith
+
+-- and so are two files' together
+pub total-two : (n m start : ℕ) → (n ≡ m → ⊥) → (fs : List FileList) → naming start (listOf n fs) + naming start (listOf m fs) ≤ total start fs
+unfolding listOf total count
+total-two n m start d [] = omega arith
+total-two n m start d (f ∷ fs) = go (eqb (f .number) n) refl (eqb (f .number) m) refl (total-two n m start d fs)
+  where
+    go : (b : Bool) → eqb (f .number) n ≡ b → (c : Bool) → eqb (f .number) m ≡ c → naming start (listOf n fs) + naming start (listOf m fs) ≤ total start fs
+        → naming start (cond b (f .items) (listOf n fs)) + naming start (cond c (f .items) (listOf m fs)) ≤ naming start (f .items) + total start fs
+    go true e true k ih = absurd (d (sym (eqb-true (f .number) n e) ∙ eqb-true (f .number) m k))
+    go true e false k ih = omega (arith, total-one m start fs)
+    go false e true k ih = omega (arith, total-one n start fs)
+    go false e false k ih = omega arith
+
+-- what all other files name
+abbrev pub others : ℕ → ℕ → List FileList → ℕ
+others n start fs = total start fs - naming start (listOf n fs)
+
+pub with-others : (n start : ℕ) (fs : List FileList) → naming start (listOf n fs) + others n start fs ≡ total start fs
+with-others n start fs = omega (arith, total-one n start fs)
+
+pub with-others-now : (n start : ℕ) (is : List Fields) (fs : List FileList) → naming start is + others n start fs ≡ total start (withList n is fs)
+with-others-now n start is fs = omega (arith, total-one n start fs, total-with n is start fs)
+
+-- a true table, by one file and the others
+pub true-row : (s : State) (n start : ℕ) → TrueTable s → 0 < naming start (listOf n (s .files)) + others n start (s .files)
+    → (k : ℕ) × (row : Row) × (find start (s .rows) ≡ At k row) × (row .references ≡ naming start (listOf n (s .files)) + others n start (s .files))
+true-row s n start t h = let x = t start (omega (arith, with-others n start (s .files))) in (x .0, x .1, x .2, x .3 ∙ sym (with-others n start (s .files)))

@@ -1,3 +1,4 @@
 pub mod Lawful
 pub mod Files
+pub mod Cloning
 pub mod Every

@@ -1,0 +1,88 @@
+-- Every plan of a clone is lawful. Assumes nothing.
+use mathlib.Core.Path.{_≡_, refl, ap, _∙_, sym}
+use mathlib.Core.Bool.{Bool, true, false, cond, _||_, not}
+use mathlib.Core.List.{List, [], _∷_, List·Memᴰ, List·Memᴰ·not-nil}
+use Prim.Native.Nat.{ℕ, _+_, _-_, _<_, _≤_}
+use native.Mathlib.Omega.{arith}
+use lib.Dec.{eqb}
+use borrow.Author.Tests.{eqb-false, eq-eqb, not-true}
+use Rattle.records.specs.Stages.{every}
+use Rattle.records.specs.Select.{count}
+use Rattle.item.specs.Items.{Fields}
+use Rattle.table.specs.declared.Row.{Row}
+use Rattle.request.specs.declared.File.{File}
+use Rattle.request.specs.Answers.{plan}
+use Rattle.request.proofs.Stages.{Accepted2}
+use Rattle.cut.specs.Mappings.{mapping}
+use Rattle.cut.specs.Pieces.{Piece, itemsOf}
+use Rattle.cut.specs.Refs.{Ref, refPasses, naming}
+use Rattle.plan.specs.Plans.{Plan, Add}
+use Rattle.clone.specs.declared.Span.{Span}
+use Rattle.clone.specs.Clone.{clone}
+use Rattle.clone.proofs.Planned.{Planned, planned, srcItems}
+use Rattle.clone.proofs.Laws.{after, applied-pieces, mapping-outside}
+use Rattle.clone.proofs.References.{balance, shared-named, released-only, released-always}
+use Rattle.history.specs.States.{State, listOf, withList, total, TrueTable}
+use Rattle.history.specs.Calls.{Call, Lent, cloning, lentOf, volumeOf, fileOf, answerOf}
+use Rattle.history.specs.Claims.{Outside, addRef, lineAt, unmarked}
+use Rattle.history.proofs.Lawful.{itemsBefore, itemsNow, totalNow, Lawful}
+use Rattle.history.proofs.Files.{total-one, total-two, others, with-others, with-others-now, true-row}
+
+module _ (sector : ℕ) (s : State) (l : Lent) (src : File) (own : Bool) (span : Span) (p : Plan) (e : answerOf sector s (cloning l src own span) ≡ plan p) where
+  abbrev c : Call
+  c = cloning l src own span
+
+  abbrev before : List Fields
+  before = listOf (l .number) (s .files)
+
+  abbrev source : List Fields
+  source = listOf (src .number) (s .files)
+
+  h : Planned (volumeOf sector l) (fileOf l) src own span before (l .shared) source (s .rows) p
+  unfolding answerOf
+  h = planned (volumeOf sector l) (fileOf l) src own span before (l .shared) source (s .rows) (l .rooms) p e
+
+  abbrev pieces : List Piece
+  pieces = after (volumeOf sector l) (fileOf l) src own span before (l .shared) source (s .rows) p h
+
+  applied : itemsNow s c p ≡ itemsOf pieces
+  applied = ap itemsOf (applied-pieces (volumeOf sector l) (fileOf l) src own span before (l .shared) source (s .rows) p h)
+
+  no-adds : p .adds ≡ []
+  no-adds = ap (λ (q : Plan). q .adds) (h .made)
+
+  -- another file is no part of this one's items
+  source-among : (start : ℕ) → own ≡ false → naming start source + naming start before ≤ total start (s .files)
+  source-among start o =
+      total-two (src .number) (l .number) start
+      (λ x. eqb-false (src .number) (l .number) (not-true (eqb (src .number) (l .number)) (rw o at (h .lent .other))) x) (s .files)
+
+  abbrev rest : ℕ → ℕ
+  rest start = others (l .number) start (s .files)
+
+  source-rest : (start : ℕ) → own ≡ false → naming start source ≤ rest start
+  source-rest start o = omega (arith, source-among start o)
+
+  -- the source's list is this file's or another's
+  named : (start : ℕ) → 0 < naming start before + naming start (srcItems (volumeOf sector l) (fileOf l) src own span before (l .shared) source (s .rows)) → 0 < total start (s .files)
+  named start n = go own refl n
+    where
+      go : (b : Bool) → own ≡ b → 0 < naming start before + naming start (cond b before source) → 0 < total start (s .files)
+      go true o n = omega (arith, total-one (l .number) start (s .files))
+      go false o n = omega (arith, total-one (l .number) start (s .files), total-one (src .number) start (s .files))
+
+  pub lawful-clone : Lawful sector s c p
+  lawful-clone =
+      record {
+        mappings = λ o out. rw applied (mapping-outside (volumeOf sector l) (fileOf l) src own span before (l .shared) source (s .rows) p h o (out .0));
+        balance = λ q. unfold count in rw (applied, no-adds) (balance (volumeOf sector l) (fileOf l) src own span before (l .shared) source (s .rows) p h q);
+        fresh = λ a m. absurd (List·Memᴰ·not-nil (rw no-adds at m));
+        shared = λ start n. named start (shared-named (volumeOf sector l) (fileOf l) src own span before (l .shared) source (s .rows) p h start n);
+        only = λ t u start n.
+            let r = released-only (volumeOf sector l) (fileOf l) src own span before (l .shared) source (s .rows) p h start (rest start) (source-rest start) (true-row s (l .number) start t) n in
+            (omega (arith, r .0, with-others (l .number) start (s .files)), sym (with-others-now (l .number) start (itemsNow s c p) (s .files)) ∙ rw applied (r .1));
+        always = λ t u start some none.
+            released-always (volumeOf sector l) (fileOf l) src own span before (l .shared) source (s .rows) p h start (rest start) (source-rest start) (true-row s (l .number) start t) u
+            (omega (arith, some, with-others (l .number) start (s .files)))
+            (rw applied at (with-others-now (l .number) start (itemsNow s c p) (s .files) ∙ none));
+      }
