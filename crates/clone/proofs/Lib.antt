@@ -3,3 +3,4 @@ pub mod Planned
 pub mod Items
 pub mod Laws
 pub mod References
+pub mod Shown
