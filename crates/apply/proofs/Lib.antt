@@ -1,2 +1,4 @@
 pub mod Rows
+pub mod Table
+pub mod Refusals
 pub mod Examples

@@ -17,6 +17,7 @@ use Rattle.cut.specs.Cuts.{front, back, cut, touched, covered, split}
 use Rattle.cut.specs.Pieces.{Piece, made, kept, itemsOf, cutPieces, insert, insertAll}
 use Rattle.cut.specs.Joins.{plain, joinable, joinNext, past, joinAround, joinAll}
 use Rattle.cut.specs.Mappings.{named}
+use Rattle.cut.proofs.Mappings.{Joint, joint}
 use Rattle.cut.specs.Refs.{Ref, refOf, sameRef, names, refers, naming, referring, refPasses}
 
 -- ---- counts in any list
@@ -264,37 +265,9 @@ pub record OfJoins (p : Fields → Bool) : Type 0 where
   pub of-joined : (f g : Fields) (n : ℕ) → p (joined f g n) ≡ p f
   pub of-both : (f g : Fields) → joinable f g ≡ true → p f ≡ p g
 
--- what joinable items have in common
-pub record Alike (f g : Fields) : Type 0 where
-  pub kind : f .kind ≡ g .kind
-  pub touch : end f ≡ g .key
-  pub start : f .extentStart ≡ g .extentStart
-  pub offset : reference f ≡ reference g
-
--- touching parts of one extent at one reference offset
-pub joinable-alike : (f g : Fields) → joinable f g ≡ true → Alike f g
-joinable-alike f g h =
-    let t : Bool = eqb (end f) (g .key) in
-    let s : Bool = eqb (f .extentStart) (g .extentStart) in
-    let o : Bool = eqb (reference f) (reference g) in
-    let h1 : (plain g && (t && (s && o))) ≡ true = both-right (plain f) (plain g && (t && (s && o))) h in
-    let h2 : (t && (s && o)) ≡ true = both-right (plain g) (t && (s && o)) h1 in
-    let h3 : (s && o) ≡ true = both-right t (s && o) h2 in
-    let kf = regular f (both-left (plain f) (plain g && (t && (s && o))) h) in
-    let kg = regular g (both-left (plain g) (t && (s && o)) h1) in
-    record {
-      kind = kf ∙ sym kg;
-      touch = eqb-true (end f) (g .key) (both-left t (s && o) h2);
-      start = eqb-true (f .extentStart) (g .extentStart) (both-left s o h3);
-      offset = eqb-true (reference f) (reference g) (both-right s o h3);
-    }
-  where
-    regular : (f : Fields) → plain f ≡ true → f .kind ≡ 1
-    regular f h = eqb-true (f .kind) 1 (both-left (eqb (f .kind) 1) (eqb (f .compression) 0 && (eqb (f .encryption) 0 && eqb (f .other) 0)) h)
-
 -- by any test on references
 pub passes-joins : (p : Ref → Bool) → OfJoins (refPasses p)
-passes-joins p = record { of-joined = λ f g n. refl; of-both = λ f g h. let a = joinable-alike f g h in rw (a .kind, a .start, a .offset) refl }
+passes-joins p = record { of-joined = λ f g n. refl; of-both = λ f g h. let a = joint f g h in rw (a .first .kind, a .second .kind, a .start, a .offset) refl }
 
 -- ---- joins
 

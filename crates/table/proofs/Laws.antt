@@ -11,8 +11,8 @@ use lib.ListN.{length, getD, drop}
 use lib.Seq.{getD-drop, drop-drop}
 use borrow.Author.Tests.{ltb-true, leb-true, eqb-true, eqb-false, not-true, lt-ltb, le-leb, eq-eqb, ne-eqb}
 use Rattle.records.specs.Records.{chunks, records}
-use Rattle.records.specs.Stages.{unless, first, every, neighbours, sieve}
-use Rattle.records.proofs.Tests.{both, both-left, both-right, same, every-at, first-go, first-stop, unless-zero}
+use Rattle.records.specs.Stages.{unless, first, every, pairs, neighbours, sieve}
+use Rattle.records.proofs.Tests.{both, both-left, both-right, same, every-at, every-map, first-go, first-stop, unless-zero}
 use Rattle.records.proofs.Loops.{rest, rest-all, chunks-length, chunks-at}
 use Rattle.table.specs.Rows.{rowOf, rows, tableSized, rowSound, rowBefore, tableKept, findFrom, find, withRow}
 use Rattle.table.specs.Raw.{rowAt, rowFrom, rowRefusal, rowEnd}
@@ -332,3 +332,41 @@ with-row start rs k r f h = ap (λ (o : Found). withRow o f) h
 -- without one it is refusal 14
 pub with-none : (start : ℕ) (rs : List Row) (f : Row → ℕ) → Missing ≡ find start rs → 14 ≡ withRow (find start rs) f
 with-none start rs f h = ap (λ (o : Found). withRow o f) h
+
+-- ---- a kept table by every two rows
+
+-- what starts at or past s, after r, comes after r
+pass-on : (r s : Row) (rs : List Row) → rowBefore r s ≡ true → every (rowBefore s) rs ≡ true → every (rowBefore r) rs ≡ true
+pass-on r s rs h k =
+    every-map (rowBefore s) (rowBefore r)
+    (λ t e.
+    let a = leb-true (r .start + r .length) (s .start) h in
+    let b = leb-true (s .start + s .length) (t .start) e in
+    le-leb (r .start + r .length) (t .start) (omega arith)) rs k
+
+neighbours-pairs : (rs : List Row) → neighbours rowBefore rs ≡ true → pairs rowBefore rs ≡ true
+unfolding neighbours pairs every
+neighbours-pairs [] h = refl
+neighbours-pairs (r ∷ []) h = refl
+neighbours-pairs (r ∷ (s ∷ rs)) h =
+    let b = both-left (rowBefore r s) (neighbours rowBefore (s ∷ rs)) h in
+    let ih = neighbours-pairs (s ∷ rs) (both-right (rowBefore r s) (neighbours rowBefore (s ∷ rs)) h) in
+    both (rowBefore r s && every (rowBefore r) rs) (every (rowBefore s) rs && pairs rowBefore rs)
+    (both (rowBefore r s) (every (rowBefore r) rs) b (pass-on r s rs b (both-left (every (rowBefore s) rs) (pairs rowBefore rs) ih)))
+    ih
+
+pairs-neighbours : (rs : List Row) → pairs rowBefore rs ≡ true → neighbours rowBefore rs ≡ true
+unfolding neighbours pairs every
+pairs-neighbours [] h = refl
+pairs-neighbours (r ∷ []) h = refl
+pairs-neighbours (r ∷ (s ∷ rs)) h =
+    both (rowBefore r s) (neighbours rowBefore (s ∷ rs))
+    (both-left (rowBefore r s) (every (rowBefore r) rs) (both-left (rowBefore r s && every (rowBefore r) rs) (every (rowBefore s) rs && pairs rowBefore rs) h))
+    (pairs-neighbours (s ∷ rs) (both-right (rowBefore r s && every (rowBefore r) rs) (every (rowBefore s) rs && pairs rowBefore rs) h))
+
+pub kept-pairs : (rs : List Row) → tableKept rs ≡ true → (every rowSound rs ≡ true) × (pairs rowBefore rs ≡ true)
+kept-pairs rs h = (kept-every rs h, neighbours-pairs rs (kept-neighbours rs h))
+
+pub pairs-kept : (rs : List Row) → every rowSound rs ≡ true → pairs rowBefore rs ≡ true → tableKept rs ≡ true
+unfolding tableKept
+pairs-kept rs s h = both (every rowSound rs) (neighbours rowBefore rs) s (pairs-neighbours rs h)
