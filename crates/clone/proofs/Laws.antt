@@ -75,7 +75,7 @@ module _ (v : Volume) (dst src : File) (own : Bool) (span : Span) (before : List
   pub top-limit : top ≤ 2 ^ 63
   top-limit = span-limit (v .sector) (span .from) (span .to) (L v dst src own span before shared source rs) (accepted .sector) (h .aligned .0) (h .aligned .1) (h .limit)
 
-  listKept : Kept (dst .number) before
+  pub listKept : Kept (dst .number) before
   listKept = kept (dst .number) before (accepted .kept)
 
   pub sourceKept : Kept (srcFile v dst src own span before shared source rs .number) (srcItems v dst src own span before shared source rs)

@@ -4,3 +4,4 @@ pub mod Items
 pub mod Laws
 pub mod References
 pub mod Shown
+pub mod Fits

@@ -19,6 +19,7 @@ use Rattle.request.specs.Answers.{Outcome, plan, nothing}
 use Rattle.request.specs.Lent.{lentRefusal2}
 use Rattle.request.proofs.Stages.{Accepted2, accepted2}
 use Rattle.lists.proofs.Laws.{ranged-of}
+use Rattle.cut.specs.Refs.{Ref}
 use Rattle.refs.specs.Drops.{dropsRefusal}
 use Rattle.plan.specs.Plans.{Plan, refusedOr}
 use Rattle.plan.specs.Outputs.{Rooms, roomFor}
@@ -61,6 +62,7 @@ module _ (v : Volume) (dst src : File) (own : Bool) (span : Span) (before : List
     pub separate : own ≡ true → (span .to + W ≤ span .from) ⊎ (span .from + W ≤ span .to)
     pub «all-ranged» : every ranged before ≡ true
     pub dropped : dropsRefusal rs (drops v dst src own span before shared source rs) ≡ 0
+    pub splits : stage (λ (r : Ref). oneMoreReference (r .start) rs) (splitRefs v dst src own span before shared source rs) ≡ 0
     pub records : stage (sourceRecord rs (dst .number) (span .from) (span .to) W) srcItems ≡ 0
 
   pub planned : (rooms : Rooms) (p : Plan) → clone v dst src own span before shared source rs rooms ≡ plan p → Planned p
@@ -90,5 +92,6 @@ module _ (v : Volume) (dst src : File) (own : Bool) (span : Span) (before : List
             (unless-zero (not own || (leb (span .to + W) (span .from) || leb (span .from + W) (span .to))) 24 (e .1 .1 .0) (λ e. omega arith)) o));
         «all-ranged» = destination-ranged before (x .1 .0);
         dropped = x .1 .1 .1 .0;
+        splits = x .1 .1 .1 .1 .0;
         records = x .1 .1 .1 .1 .1 .0;
       }

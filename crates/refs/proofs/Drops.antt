@@ -213,7 +213,7 @@ later-missing : (r : Row) (rs : List Row) → tableKept (r ∷ rs) ≡ true → 
 later-missing r rs h k s e = none-missing rs k s r (λ i l x. omega (arith, kept-rising (r ∷ rs) h 0 (suc i) r (omega arith) (omega arith)))
 
 -- a row was found
-abbrev isFound : Found → Bool
+abbrev pub isFound : Found → Bool
 isFound (At k r) = true
 isFound Missing = false
 

@@ -1,3 +1,4 @@
 pub mod Compared
 pub mod Drops
+pub mod Lines
 pub mod Examples
