@@ -1,1 +1,5 @@
 pub mod Examples
+pub mod Less
+pub mod Holes
+pub mod Planned
+pub mod Fair

@@ -1,12 +1,12 @@
 -- Every plan of a clone is lawful. Assumes nothing.
 use mathlib.Core.Path.{_≡_, refl, ap, _∙_, sym}
 use mathlib.Core.Bool.{Bool, true, false, cond, _||_, not}
-use mathlib.Core.List.{List, [], _∷_, List·Memᴰ, List·Memᴰ·not-nil}
+use mathlib.Core.List.{List, [], _∷_, _++_, List·Memᴰ, List·Memᴰ·not-nil}
 use Prim.Native.Nat.{ℕ, _+_, _-_, _<_, _≤_}
 use native.Mathlib.Omega.{arith}
 use lib.Dec.{eqb}
 use borrow.Author.Tests.{eqb-false, eq-eqb, not-true}
-use Rattle.records.specs.Stages.{every}
+use Rattle.records.specs.Stages.{every, pairs}
 use Rattle.records.specs.Select.{count}
 use Rattle.item.specs.Items.{Fields}
 use Rattle.table.specs.declared.Row.{Row}
@@ -20,13 +20,18 @@ use Rattle.plan.specs.Plans.{Plan, Add}
 use Rattle.clone.specs.declared.Span.{Span}
 use Rattle.clone.specs.Clone.{clone}
 use Rattle.clone.proofs.Planned.{Planned, planned, srcItems}
-use Rattle.clone.proofs.Laws.{after, applied-pieces, mapping-outside}
+use Rattle.refs.proofs.Lines.{rowed-stage}
+use Rattle.lists.proofs.Laws.{well-kept}
+use Rattle.apply.specs.Apply.{rowMissing}
+use Rattle.apply.proofs.Refusals.{Fit}
+use Rattle.clone.proofs.Laws.{after, after-kept, applied-pieces, mapping-outside}
+use Rattle.clone.proofs.Fits.{rising, sectors-now, lines-rowed}
 use Rattle.clone.proofs.References.{balance, shared-named, released-only, released-always}
 use Rattle.history.specs.States.{State, listOf, withList, total, TrueTable}
 use Rattle.history.specs.Calls.{Call, Lent, cloning, lentOf, volumeOf, fileOf, answerOf}
 use Rattle.history.specs.Claims.{Outside, addRef, lineAt, unmarked}
 use Rattle.history.proofs.Lawful.{itemsBefore, itemsNow, totalNow, Lawful}
-use Rattle.history.proofs.Files.{total-one, total-two, others, with-others, with-others-now, true-row}
+use Rattle.history.proofs.Files.{missing-none, total-one, total-two, others, with-others, with-others-now, true-row}
 
 module _ (sector : ℕ) (s : State) (l : Lent) (src : File) (own : Bool) (span : Span) (p : Plan) (e : answerOf sector s (cloning l src own span) ≡ plan p) where
   abbrev c : Call
@@ -85,4 +90,24 @@ module _ (sector : ℕ) (s : State) (l : Lent) (src : File) (own : Bool) (span :
             released-always (volumeOf sector l) (fileOf l) src own span before (l .shared) source (s .rows) p h start (rest start) (source-rest start) (true-row s (l .number) start t) u
             (omega (arith, some, with-others (l .number) start (s .files)))
             (rw applied at (with-others-now (l .number) start (itemsNow s c p) (s .files) ∙ none));
+      }
+
+  -- and what it brings along is fit to be applied
+  pub fit-clone : Fit sector (l .number) (l .generation + 1) before (s .rows) p
+  fit-clone =
+      let a = h .lent .destination in
+      record {
+        items = a .sized;
+        rows = a .«table-sized»;
+        kept = a .kept;
+        rising = rising (volumeOf sector l) (fileOf l) src own span before (l .shared) source (s .rows) p h;
+        table = a .«table-kept»;
+        «sector-sound» = a .sector;
+        sectors = a .sectors;
+        lines = rowed-stage (s .rows) (rowMissing (s .rows)) (missing-none (s .rows)) (p .shares ++ (p .unrefs ++ p .releases)) (lines-rowed (volumeOf sector l) (fileOf l) src own span before (l .shared) source (s .rows) p h);
+        «kept-now» = rw applied (well-kept (l .number) (itemsOf pieces) (after-kept (volumeOf sector l) (fileOf l) src own span before (l .shared) source (s .rows) p h));
+        «sectors-now» = rw applied (sectors-now (volumeOf sector l) (fileOf l) src own span before (l .shared) source (s .rows) p h);
+        new = rw no-adds (unfold every in refl);
+        clear = rw no-adds (unfold every in refl);
+        apart = rw no-adds (unfold pairs in refl);
       }

@@ -1,6 +1,6 @@
 -- The laws of one list a file, of an extent's total, and of sums over the plans applied. Assumes nothing.
 use mathlib.Core.Path.{_≡_, refl, ap, _∙_, sym}
-use mathlib.Core.Bool.{Bool, true, false, cond}
+use mathlib.Core.Bool.{Bool, true, false, cond, false≢true}
 use mathlib.Core.List.{List, [], _∷_, _++_}
 use Prim.Native.Nat.{ℕ, _+_, _-_, _≤_, _<_}
 use native.Mathlib.Omega.{arith}
@@ -9,9 +9,12 @@ use borrow.Author.Tests.{eqb-true, eq-eqb, ne-eqb}
 use Rattle.records.specs.Select.{count}
 use Rattle.item.specs.Items.{Fields}
 use Rattle.table.specs.declared.Row.{Row}
-use Rattle.table.specs.declared.Found.the-variants.{At}
-use Rattle.table.specs.Rows.{find}
-use Rattle.cut.specs.Refs.{naming}
+use Rattle.table.specs.declared.Found.{Found}
+use Rattle.table.specs.declared.Found.the-variants.{At, Missing}
+use Rattle.table.specs.Rows.{find, withRow}
+use Rattle.refs.proofs.Drops.{isFound}
+use Rattle.apply.specs.Apply.{rowMissing}
+use Rattle.cut.specs.Refs.{Ref, naming}
 use Rattle.plan.specs.Plans.{Plan}
 use Rattle.history.specs.States.{FileList, State, listOf, withList, total, TrueTable}
 use Rattle.history.specs.Calls.{Applied}
@@ -99,3 +102,11 @@ with-others-now n start is fs = omega (arith, total-one n start fs, total-with n
 pub true-row : (s : State) (n start : ℕ) → TrueTable s → 0 < naming start (listOf n (s .files)) + others n start (s .files)
     → (k : ℕ) × (row : Row) × (find start (s .rows) ≡ At k row) × (row .references ≡ naming start (listOf n (s .files)) + others n start (s .files))
 true-row s n start t h = let x = t start (omega (arith, with-others n start (s .files))) in (x .0, x .1, x .2, x .3 ∙ sym (with-others n start (s .files)))
+
+-- a line of an extent that has a row is not missing it
+pub missing-none : (rs : List Row) (r : Ref) → isFound (find (r .start) rs) ≡ true → rowMissing rs r ≡ 0
+missing-none rs r h = go (find (r .start) rs) h
+  where
+    go : (o : Found) → isFound o ≡ true → withRow o (λ (row : Row). 0) ≡ 0
+    go (At k row) h = refl
+    go Missing h = absurd (false≢true h)
