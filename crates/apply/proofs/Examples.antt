@@ -5,14 +5,18 @@ use mathlib.Core.List.{List, [], _∷_, map, flatMap}
 use Prim.Native.Nat.{ℕ, _-_, _^_}
 use Rattle.records.specs.Stages.{first, firstOf, stage, every, pairs, neighbours}
 use Rattle.records.specs.Select.{keep, any, count}
-use Rattle.item.specs.Items.{Fields, regularItem, windowed}
+use Rattle.endian.specs.Le.{le, num, enc}
+use Rattle.records.specs.Records.{records, chunks}
+use Rattle.item.specs.Items.{Fields, regularItem, windowed, items, decode, itemOf, encode}
 use Rattle.table.specs.declared.Row.{Row}
-use Rattle.table.specs.Rows.{tableKept, findFrom}
+use Rattle.table.specs.Rows.{tableKept, findFrom, rows, rowOf}
 use Rattle.lists.specs.Lists.{wellKept}
 use Rattle.cut.specs.Pieces.{insert, insertAll}
 use Rattle.cut.specs.Edits.{Edit, put, delete, itemsAfter}
 use Rattle.cut.specs.Refs.{Ref}
 use Rattle.plan.specs.Plans.{Plan, Add}
+use Rattle.plan.specs.Outputs.{editBytes}
+use Rattle.apply.specs.Lent.{editOf, refAt, addAt, applyLent}
 use Rattle.apply.specs.Apply.{insertRow, insertRows, rowsAfter, applyRefusal, Applying, applied, refusal, apply}
 
 part : (key position length : ℕ) → Fields
@@ -58,6 +62,32 @@ cases =
     ∷ (ask 1 (delete 4096 ∷ delete 0 ∷ []) [] [] [] [], refusal 2)
     ∷ (ask 1 (delete 0 ∷ delete 0 ∷ []) [] [] [] [], refusal 2)
     ∷ []
+
+-- ---- plans as they are lent
+
+lent : (edits shares adds : List ℕ) → Applying
+lent edits shares adds =
+    applyLent 4096 257 8 10 10 (encode (part 0 0 16384)) (1048576 ∷ 16384 ∷ 1 ∷ 5 ∷ 0 ∷ [])
+    (record { edits = edits; shares = shares; unrefs = []; releases = []; adds = adds })
+
+lentCases : List (Applying × Applying)
+lentCases =
+    (lent [] [] [], applied (part 0 0 16384 ∷ []) (row 1048576 1 5 ∷ []))
+    -- what an operation lays out is read back: a put, a delete by key, a share
+    ∷ (lent (editBytes 257 (put (part 0 0 4096))) (1048576 ∷ 0 ∷ []) [], applied (part 0 0 4096 ∷ []) (row 1048576 2 5 ∷ []))
+    ∷ (lent (editBytes 258 (delete 0)) [] [], applied [] (row 1048576 1 5 ∷ []))
+    ∷ (lent [] [] (4194304 ∷ 16384 ∷ 0 ∷ []), applied (part 0 0 16384 ∷ []) (row 1048576 1 5 ∷ row 4194304 1 8 ∷ []))
+    -- broken lengths, and a byte that is neither put nor delete
+    ∷ (lent (1 ∷ []) [] [], refusal 1)
+    ∷ (lent (3 ∷ encode (part 0 0 4096)) [] [], refusal 1)
+    ∷ (lent (0 ∷ encode (part 0 0 4096)) [] [], refusal 1)
+    ∷ (lent [] (1048576 ∷ []) [], refusal 1)
+    ∷ (lent [] [] (4194304 ∷ 16384 ∷ []), refusal 1)
+    ∷ []
+
+right-lent : map (λ (c : Applying × Applying). c .0) lentCases ≡ map (λ (c : Applying × Applying). c .1) lentCases
+unfolding lentCases lent part row first firstOf stage every pairs neighbours keep any count flatMap tableKept findFrom wellKept insert insertAll itemsAfter insertRow insertRows rowsAfter applyRefusal apply records chunks items decode itemOf encode rows rowOf editOf refAt addAt le num enc
+right-lent = refl
 
 right : map (λ (c : Applying × Applying). c .0) cases ≡ map (λ (c : Applying × Applying). c .1) cases
 unfolding cases part row ref ask first firstOf stage every pairs neighbours keep any count flatMap tableKept findFrom wellKept insert insertAll itemsAfter insertRow insertRows rowsAfter applyRefusal apply

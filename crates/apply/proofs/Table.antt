@@ -61,10 +61,13 @@ pairs-insertRow x (r ∷ rs) sx s c h =
   where
     sr : rowSound r ≡ true
     sr = both-left (rowSound r) (every rowSound rs) s
+
     cr : rowsClear x r ≡ true
     cr = both-left (rowsClear x r) (every (rowsClear x) rs) c
+
     br : every (rowBefore r) rs ≡ true
     br = both-left (every (rowBefore r) rs) (pairs rowBefore rs) h
+
     go : (b : Bool) → ltb (x .start) (r .start) ≡ b → pairs rowBefore (insertRow x rs) ≡ true → pairs rowBefore (cond b (x ∷ r ∷ rs) (r ∷ insertRow x rs)) ≡ true
     go true e ih =
         let l = ltb-true (x .start) (r .start) e in

@@ -26,7 +26,8 @@ use Rattle.change.proofs.Rounding.{down-whole, down-next, up-limit, sector-limi
 use Rattle.fallocate.specs.Fallocate.{endRewritten, from, to, endSector, endStop, holesToAllocate, sumOf, fallocateChange}
 use Rattle.fallocate.proofs.Less.{between, clearOf, wholeItem, wholeSpan}
 use Rattle.fallocate.proofs.Holes.{end-order, end-whole, holes-whole, holes-free, holes-clear, holes-between, holes-apart, holes-sum}
-use Rattle.fallocate.proofs.Planned.{ground, change, Planned, records-ranged, ground-items, ground-sound}
+use Rattle.punch.proofs.Planned.{records-ranged, ground-items, ground-sound}
+use Rattle.fallocate.proofs.Planned.{ground, change, Planned}
 
 -- ranged items of whole sectors
 items-whole : (sector : ℕ) (fs : List Fields) → every ranged fs ≡ true → every (whole sector) fs ≡ true → every (wholeItem sector) fs ≡ true

@@ -32,6 +32,7 @@ use Rattle.change.specs.Rewrites.{Ground, itemsHeld}
 use Rattle.change.specs.Changes.{Change, wanted, planOf, changeRefusal, changed}
 use Rattle.change.proofs.Fair.{Sound}
 use Rattle.punch.specs.Punch.{rangeRefusal, groundOf}
+use Rattle.punch.proofs.Planned.{records-ranged, ground-items, ground-sound}
 use Rattle.fallocate.specs.Fallocate.{from, to, endSector, endStop, itemRefusal, holesToAllocate, sumOf, fallocateChange, fallocateRefusal, fallocate}
 use Rattle.fallocate.proofs.Less.{inside, over, within, within-facts, without-facts}
 use Rattle.fallocate.proofs.Holes.{hole-told}
@@ -46,14 +47,6 @@ any-map u p q f (a ∷ l) h k =
     (either (p a) (any p l) k)
 
 -- ---- what the stages say of the items
-
--- records that pass 7, 8 and 9 are of kind 1 or 2
-pub records-ranged : (fs : List Fields) → stage recordRefusal fs ≡ 0 → every ranged fs ≡ true
-unfolding every
-records-ranged [] h = refl
-records-ranged (f ∷ fs) h =
-    let s = stage-zero recordRefusal f fs h in
-    both (ranged f) (every ranged fs) (plain f (s .0) .ranged) (records-ranged fs (s .1))
 
 module _ (size sector offset stop : ℕ) where
   abbrev lo : ℕ
@@ -118,17 +111,6 @@ module _ (size sector offset stop : ℕ) where
       go false e false k = inl (hole-told size sector offset stop o fs (record { low = low; high = high; free = e; aside = without-facts endLo endHi o (rw k refl) }))
 
 -- ---- what the plan says
-
--- the list of the ground is the list that is lent
-pub ground-items : (v : Volume) (f : File) (fs : List Fields) (shared : List ℕ) (rs : List Row) → Accepted v f fs shared rs → itemsHeld (held fs shared) ≡ fs
-ground-items v f fs shared rs a =
-    held-items fs shared (eqb-true (length shared) (length fs) (both-left (eqb (length shared) (length fs)) (every (λ (b : ℕ). leb b 1) shared) (a .shares)))
-
--- a file that passed its checks
-pub ground-sound : (v : Volume) (f : File) (fs : List Fields) (shared : List ℕ) (rs : List Row) → Accepted v f fs shared rs → every ranged fs ≡ true → Sound (groundOf v f fs shared rs)
-ground-sound v f fs shared rs a r =
-    let e : itemsHeld (held fs shared) ≡ fs = ground-items v f fs shared rs a in
-    record { kept = rw e (kept (f .number) fs (a .kept)); ranges = rw e r; sector = a .sector; sectors = rw e (a .sectors); table = a .«table-kept» }
 
 module _ (v : Volume) (f : File) (r : Range) (keepSize : Bool) (fs : List Fields) (shared : List ℕ) (rs : List Row) where
   abbrev pub ground : Ground

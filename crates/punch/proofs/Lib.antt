@@ -1,1 +1,5 @@
 pub mod Examples
+pub mod Planned
+pub mod Starts
+pub mod Shapes
+pub mod Fair
