@@ -2,4 +2,9 @@ pub mod Rounding
 pub mod Preallocs
 pub mod Rewrites
 pub mod Fair
+pub mod Each
+pub mod Items
+pub mod News
+pub mod Steps
+pub mod Shown
 pub mod Examples
