@@ -1,4 +1,5 @@
 pub mod Rows
 pub mod Table
+pub mod Adds
 pub mod Refusals
 pub mod Examples

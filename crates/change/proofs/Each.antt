@@ -1,13 +1,13 @@
 -- Tests over the lists that a change makes: items in place, new items, and pieces of holes. Assumes nothing.
-use mathlib.Core.Path.{_≡_, refl, ap, _∙_}
-use mathlib.Core.Bool.{Bool, true, false, cond, _&&_, _||_, not, false≢true}
+use mathlib.Core.Path.{_≡_, refl, ap}
+use mathlib.Core.Bool.{Bool, true, false, cond, _&&_, _||_, false≢true}
 use mathlib.Core.List.{List, [], _∷_, _++_, map, flatMap, List·Memᴰ, List·Memᴰ·head, List·Memᴰ·tail}
 use mathlib.Core.Option.{Option, none, some}
 use Prim.Native.Nat.{ℕ, zero, suc, _+_, _<_, _≤_}
 use native.Mathlib.Omega.{arith}
 use lib.Dec.{eqb}
 use lib.ListN.{length, getD}
-use borrow.Author.Tests.{eq-eqb}
+use borrow.Author.Tests.{eqb-true, eqb-false, eq-eqb}
 use Rattle.records.specs.Stages.{every, pairs}
 use Rattle.records.specs.Select.{any, count}
 use Rattle.records.proofs.Tests.{both, both-left, both-right, either-left, either-right, every-map, every-both}
@@ -43,6 +43,16 @@ module _ {A : Type 0} where
       go : (b : Bool) → p a ≡ b → (b || any p l) ≡ true → (any p l ≡ true → (c : A) × (p c ≡ true) × (u c ≡ true)) → (c : A) × (p c ≡ true) × (u c ≡ true)
       go true e h f = (a, e, both-left (u a) (every u l) k)
       go false e h f = f h
+
+  -- and another test, where it follows
+  pub any-where : (u p q : A → Bool) → ((a : A) → u a ≡ true → p a ≡ true → q a ≡ true) → (l : List A) → every u l ≡ true → any p l ≡ true → any q l ≡ true
+  unfolding any every
+  any-where u p q f [] k h = h
+  any-where u p q f (a ∷ l) k h = go (p a) refl h (any-where u p q f l (both-right (u a) (every u l) k))
+    where
+      go : (b : Bool) → p a ≡ b → (b || any p l) ≡ true → (any p l ≡ true → any q l ≡ true) → (q a || any q l) ≡ true
+      go true e h s = either-left (q a) (any q l) (f a (both-left (u a) (every u l) k) e)
+      go false e h s = either-right (q a) (any q l) (s h)
 
   -- two lists one behind the other
   pub every-append : (p : A → Bool) (l m : List A) → every p l ≡ true → every p m ≡ true → every p (l ++ m) ≡ true
@@ -266,5 +276,5 @@ module _ (limit : ℕ) (hole : Span) where
       go (eqb n i) refl (λ d. pieces-any q (n + 1) k i d (omega arith) h)
     where
       go : (t : Bool) → eqb n i ≡ t → (n + 1 ≤ i → any q (piecesFrom limit hole (n + 1) k) ≡ true) → (q (nthPiece limit hole n) || any q (piecesFrom limit hole (n + 1) k)) ≡ true
-      go true e f = either-left (q (nthPiece limit hole n)) (any q (piecesFrom limit hole (n + 1) k)) (rw (borrow.Author.Tests.eqb-true n i e) h)
-      go false e f = let d = borrow.Author.Tests.eqb-false n i e in either-right (q (nthPiece limit hole n)) (any q (piecesFrom limit hole (n + 1) k)) (f (omega arith))
+      go true e f = either-left (q (nthPiece limit hole n)) (any q (piecesFrom limit hole (n + 1) k)) (rw (eqb-true n i e) h)
+      go false e f = let d = eqb-false n i e in either-right (q (nthPiece limit hole n)) (any q (piecesFrom limit hole (n + 1) k)) (f (omega arith))

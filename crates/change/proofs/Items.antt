@@ -1,38 +1,34 @@
 -- The items that a change makes: those written in place and the new ones, each sound, and clear of all others. Assumes nothing.
-use mathlib.Core.Path.{_≡_, refl, ap, _∙_, sym}
+use mathlib.Core.Path.{_≡_, refl, _∙_, sym}
 use mathlib.Core.Bool.{Bool, true, false, _&&_, _||_, not, false≢true}
-use mathlib.Core.List.{List, [], _∷_, _++_, map, flatMap, List·Memᴰ}
+use mathlib.Core.List.{List, [], _∷_, List·Memᴰ}
 use mathlib.Core.Logic.{_⊎_, inl, inr, ⊎-elim}
 use mathlib.Core.Option.{some}
-use Prim.Native.Nat.{ℕ, _+_, _-_, _%_, _^_, _<_, _≤_, min, max}
+use Prim.Native.Nat.{ℕ, _+_, _-_, _%_, _^_, _<_, _≤_}
 use native.Mathlib.Omega.{arith}
 use native.Mathlib.Decide.{decLt}
 use native.Mathlib.Nat.{mod-self, dvd-add, dvd-of-mod-eq-zero, mod-eq-zero-of-dvd}
 use lib.Dec.{eqb, leb, ltb}
 use borrow.Author.Tests.{eqb-true, leb-true, ltb-true, eq-eqb, le-leb, lt-ltb, not-true}
 use Rattle.records.specs.Stages.{every, pairs}
-use Rattle.records.specs.Select.{keep, any}
-use Rattle.records.proofs.Tests.{both, both-left, both-right, either, either-left, either-right, every-map, every-both, every-picked, pairs-picked}
-use Rattle.item.specs.Items.{Fields, ranged, hole, end, joined, reference}
+use Rattle.records.proofs.Tests.{both, both-left, both-right, either, either-left, either-right}
+use Rattle.item.specs.Items.{Fields, ranged, hole, end, joined}
 use Rattle.lists.specs.Lists.{itemSound, rangeSound, apart, whole}
 use Rattle.lists.proofs.Order.{item-ranged}
 use Rattle.lists.proofs.Laws.{item-file, whole-facts}
-use Rattle.table.specs.declared.Row.{Row}
 use Rattle.cut.specs.Cuts.{front, back}
 use Rattle.cut.specs.Mappings.{named, holds}
 use Rattle.cut.specs.Pieces.{itemsOf, cutPieces}
 use Rattle.cut.proofs.Mappings.{Joint, Joins, joins-all, joins-every}
-use Rattle.cut.proofs.Kept.{clear, within, clear-apart, cut-clear, every-cut, every-insertAll}
+use Rattle.cut.proofs.Kept.{clear, within, clear-apart, every-cut, every-insertAll}
 use Rattle.refs.specs.Drops.{Held}
-use Rattle.plan.specs.Places.{Wanted, placed, placeSound, placesSound, clear as placesClear}
-use Rattle.change.specs.Preallocs.{Span, pieceCount, nthPiece, preallocPieces}
-use Rattle.change.specs.Rewrites.{Ground, Rewrite, itemsHeld, preallocated, inPlace, positionOf, newGeneration, itemInPlace, eachInPlace}
-use Rattle.change.specs.Changes.{Change, before, newItems, piecesWritten, piecesJoined, sectorsWanted, piecesWanted, wanted}
+use Rattle.change.specs.Preallocs.{Span}
+use Rattle.change.specs.Rewrites.{Ground, Rewrite, preallocated, inPlace, positionOf, newGeneration, itemInPlace, eachInPlace}
+use Rattle.change.specs.Changes.{Change, before, piecesWritten, piecesJoined}
 use Rattle.change.proofs.Rounding.{sector-limit, whole-next}
-use Rattle.change.proofs.Preallocs.{piece-some, piece-inside, piece-apart, piece-start-whole, piece-length-whole}
 use Rattle.change.proofs.Rewrites.{holder-says, preallocated-says, in-place-some}
-use Rattle.change.proofs.Fair.{Fair, rewriteInside, rewritesRise, holeInside, holeFree, holesRise}
-use Rattle.change.proofs.Each.{every-mem, every-append, pairs-append, every-mapped, pairs-mapped, every-flat, pairs-flat, each-every, each-pairs, newItem, addAt, new-every, new-pairs, pieces-every, pieces-pairs}
+use Rattle.change.proofs.Fair.{Fair, rewriteInside, rewritesRise, holeInside}
+use Rattle.change.proofs.Each.{every-mem, every-mapped, each-every, each-pairs}
 
 -- ---- clear of a stretch
 
@@ -164,28 +160,36 @@ hole-facts g c s h =
 abbrev pub itemsInPlace : Ground → Change → List Fields
 itemsInPlace g c = eachInPlace g (itemInPlace g) (c .rewrites)
 
-module _ (g : Ground) (c : Change) (fair : Fair g c) where
-  pub sector-some : 0 < g .sector
-  sector-some = sector-limit (g .sector) (fair .sound .sector) .0
-
+module _ (g : Ground) (c : Change) where
   -- a holder passes what all items of the file do
   pub holder-every : (p : Fields → Bool) → every p (before g c) ≡ true → (r : Rewrite) (h : Held) → preallocated g r ≡ some h → p (h .item) ≡ true
   holder-every p e r h s = every-mem (λ (q : Held). p (q .item)) (holder-facts g r h s .member) (sym (every-mapped p (λ (q : Held). q .item) (g .held)) ∙ e)
+
+  -- what is clear of the pieces of the cut and of the items in place is clear of all pieces after the joins
+  pub joined-clear : (a b : ℕ) → a < b → every (clear a b) (itemsOf (cutPieces (c .lo) (c .hi) (before g c))) ≡ true → every (clear a b) (itemsInPlace g c) ≡ true → every (clear a b) (itemsOf (piecesJoined g c)) ≡ true
+  unfolding piecesJoined piecesWritten
+  joined-clear a b l p q =
+      clear-joins a b (newGeneration g) l (joins-all (newGeneration g) (eachInPlace g (λ (r : Rewrite) (h : Held). r .sector) (c .rewrites)) (piecesWritten g c))
+      (every-insertAll (clear a b) (itemsInPlace g c) (cutPieces (c .lo) (c .hi) (before g c)) q p)
+
+module _ (g : Ground) (c : Change) (fair : Fair g c) where
+  pub sector-some : 0 < g .sector
+  sector-some = sector-limit (g .sector) (fair .sound .sector) .0
 
   -- an item in place lies in its holder
   in-place-fits : (r : Rewrite) (h : Held) → rewriteInside g c r ≡ true → preallocated g r ≡ some h → positionOf r h + g .sector < 2 ^ 64
   in-place-fits r h u s =
       let k = holder-facts g r h s in
       let i = inside g c r u in
-      let b = item-ranged (g .file) (h .item) (holder-every (itemSound (g .file)) (fair .sound .kept .sound) r h s) (k .ranges) in
-      let w = whole-facts (g .sector) (h .item) (holder-every (whole (g .sector)) (fair .sound .sectors) r h s) (k .ranges) in
+      let b = item-ranged (g .file) (h .item) (holder-every g c (itemSound (g .file)) (fair .sound .kept .sound) r h s) (k .ranges) in
+      let w = whole-facts (g .sector) (h .item) (holder-every g c (whole (g .sector)) (fair .sound .sectors) r h s) (k .ranges) in
       let e : end (h .item) % g .sector ≡ 0 = mod-eq-zero-of-dvd (g .sector) (dvd-add (g .sector) (dvd-of-mod-eq-zero (g .sector) (w .0)) (dvd-of-mod-eq-zero (g .sector) (w .1))) in
       let n : r .sector + g .sector ≤ end (h .item) = whole-next (g .sector) sector-some (r .sector) (end (h .item)) (i .start) e (k .high) in
       omega (arith, k .low, b .fits)
 
   in-place-sound : (r : Rewrite) (h : Held) → rewriteInside g c r ≡ true → preallocated g r ≡ some h → itemSound (g .file) (itemInPlace g r h) ≡ true
   in-place-sound r h u s =
-      let f = item-file (g .file) (h .item) (holder-every (itemSound (g .file)) (fair .sound .kept .sound) r h s) in
+      let f = item-file (g .file) (h .item) (holder-every g c (itemSound (g .file)) (fair .sound .kept .sound) r h s) in
       sound-item (g .file) (itemInPlace g r h) (f .0) (f .1) (omega (arith, sector-some)) (omega (arith, inside g c r u .high, fair .limit)) (in-place-fits r h u s)
 
   -- sound for the file
@@ -243,10 +247,3 @@ module _ (g : Ground) (c : Change) (fair : Fair g c) where
             | yes l ↦ inl (whole-next (g .sector) sector-some (d .sector) (r .sector) (j .start) (i .start) l)
             | no l ↦ inr (whole-next (g .sector) sector-some (r .sector) (d .sector) (i .start) (j .start) (omega (arith, other d h s)))
           ]
-
-  -- what is clear of the pieces of the cut and of the items in place is clear of all pieces after the joins
-  pub joined-clear : (a b : ℕ) → a < b → every (clear a b) (itemsOf (cutPieces (c .lo) (c .hi) (before g c))) ≡ true → every (clear a b) (itemsInPlace g c) ≡ true → every (clear a b) (itemsOf (piecesJoined g c)) ≡ true
-  unfolding piecesJoined piecesWritten
-  joined-clear a b l p q =
-      clear-joins a b (newGeneration g) l (joins-all (newGeneration g) (eachInPlace g (λ (r : Rewrite) (h : Held). r .sector) (c .rewrites)) (piecesWritten g c))
-      (every-insertAll (clear a b) (itemsInPlace g c) (cutPieces (c .lo) (c .hi) (before g c)) q p)

@@ -7,4 +7,8 @@ pub mod Items
 pub mod News
 pub mod Steps
 pub mod Shown
+pub mod Writes
+pub mod Balance
+pub mod Released
+pub mod Fits
 pub mod Examples

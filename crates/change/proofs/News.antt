@@ -1,23 +1,22 @@
 -- The extents that a change wants and the items over them: sound, and clear of all others. Assumes nothing.
 use mathlib.Core.Path.{_≡_, refl, _∙_}
 use mathlib.Core.Bool.{Bool, true, false, _&&_, _||_, not}
-use mathlib.Core.List.{List, [], _∷_, _++_, map, flatMap}
+use mathlib.Core.List.{List, flatMap}
 use mathlib.Core.Logic.{_⊎_, inl, inr, ⊎-elim}
 use Prim.Native.Nat.{ℕ, _+_, _%_, _^_, _<_, _≤_}
 use native.Mathlib.Omega.{arith}
 use native.Mathlib.Nat.{mod-self}
 use lib.Dec.{eqb, leb, ltb}
 use lib.ListN.{length}
-use borrow.Author.Tests.{eqb-true, eqb-false, leb-true, eq-eqb, le-leb, not-true}
+use borrow.Author.Tests.{eqb-true, leb-true, eq-eqb, le-leb, not-true}
 use Rattle.records.specs.Stages.{every, pairs}
 use Rattle.records.proofs.Tests.{both, both-left, both-right, either-left, either-right, every-map, every-both, every-picked, pairs-picked}
-use Rattle.item.specs.Items.{Fields, ranged, hole, end, reference}
+use Rattle.item.specs.Items.{Fields, ranged, hole, reference}
 use Rattle.lists.specs.Lists.{itemSound, apart, whole}
 use Rattle.table.specs.declared.Row.{Row}
 use Rattle.cut.specs.Pieces.{itemsOf, cutPieces}
 use Rattle.cut.specs.Mappings.{named}
 use Rattle.cut.proofs.Kept.{clear, clear-apart, cut-clear, allApart}
-use Rattle.plan.specs.Plans.{Add}
 use Rattle.plan.specs.Places.{Wanted, placed, placeSound, placesApart, placesSound, clear as placesClear}
 use Rattle.change.specs.Preallocs.{Span, pieceCount, nthPiece, preallocPieces}
 use Rattle.change.specs.Rewrites.{Ground, Rewrite, inPlace}
@@ -25,7 +24,7 @@ use Rattle.change.specs.Changes.{Change, before, newItems, piecesJoined,
 use Rattle.change.proofs.Preallocs.{piece-some, piece-inside, piece-apart, piece-start-whole, piece-length-whole}
 use Rattle.change.proofs.Fair.{Fair, rewriteInside, rewritesRise, holeInside, holeFree, holesRise}
 use Rattle.change.proofs.Each.{every-append, pairs-append, every-mapped, pairs-mapped, every-flat, pairs-flat, newItem, addAt, new-every, new-pairs, pieces-every, pieces-pairs}
-use Rattle.change.proofs.Items.{clears, clear-part, apart-clear, clear-cut, sound-item, whole-item, Inside, inside, Hole, hole-facts, sector-some, itemsInPlace, written-outside, written-elsewhere, joined-clear}
+use Rattle.change.proofs.Items.{clear-part, apart-clear, clear-cut, sound-item, whole-item, Inside, inside, Hole, hole-facts, sector-some, written-outside, written-elsewhere, joined-clear}
 
 -- ---- an extent wanted
 
@@ -115,10 +114,6 @@ module _ (g : Ground) (c : Change) (fair : Fair g c) (limit : ℕ) (pos : 0 < li
       (λ i a b. f s i (hole-facts g c s (both-left (holeInside g c s) (holeFree (before g c) s) e)) (both-right (holeInside g c s) (holeFree (before g c) s) e) (omega arith)))
       (c .holes) holes-sound
 
-  -- both
-  pub every-wanted : (q : Wanted → Bool) → every q (sectorsWanted g c limit) ≡ true → every q (piecesWanted g c limit) ≡ true → every q (wanted g c limit) ≡ true
-  every-wanted q h k = every-append q (sectorsWanted g c limit) (piecesWanted g c limit) h k
-
   -- ---- apart
 
   sectors-apart : pairs wantedApart (sectorsWanted g c limit) ≡ true
@@ -166,7 +161,7 @@ module _ (g : Ground) (c : Change) (fair : Fair g c) (limit : ℕ) (pos : 0 < li
   -- once it is cut, written in place and joined
   pub wanted-clear : every (wantedClear (itemsOf (piecesJoined g c))) (wanted g c limit) ≡ true
   wanted-clear =
-      every-wanted (wantedClear (itemsOf (piecesJoined g c)))
+      every-append (wantedClear (itemsOf (piecesJoined g c))) (sectorsWanted g c limit) (piecesWanted g c limit)
       (every-sector (wantedClear (itemsOf (piecesJoined g c))) (λ r u n. sector r u n))
       (every-piece (wantedClear (itemsOf (piecesJoined g c))) (λ s i h f l. piece s i h f l))
     where
@@ -176,7 +171,7 @@ module _ (g : Ground) (c : Change) (fair : Fair g c) (limit : ℕ) (pos : 0 < li
           let p = sector-some g c fair in
           let low = i .low in
           let high = i .high in
-          joined-clear g c fair (r .sector) (r .sector + g .sector) (omega arith)
+          joined-clear g c (r .sector) (r .sector + g .sector) (omega arith)
           (every-map (clear (c .lo) (c .hi)) (clear (r .sector) (r .sector + g .sector)) (clear-part (c .lo) (c .hi) (r .sector) (r .sector + g .sector) low high) (itemsOf (cutPieces (c .lo) (c .hi) (before g c))) (cut-clear (c .lo) (c .hi) (before g c) (omega arith)))
           (written-elsewhere g c fair r u n)
 
@@ -187,7 +182,7 @@ module _ (g : Ground) (c : Change) (fair : Fair g c) (limit : ℕ) (pos : 0 < li
           let o = piece-some limit pos s i l in
           let a = p .0 in
           let b = p .1 in
-          joined-clear g c fair (x .start) (x .start + x .length) (omega arith)
+          joined-clear g c (x .start) (x .start + x .length) (omega arith)
           (clear-cut (x .start) (x .start + x .length) (c .lo) (c .hi) (before g c) (every-map (clear (s .start) (s .start + s .length)) (clear (x .start) (x .start + x .length)) (clear-part (s .start) (s .start + s .length) (x .start) (x .start + x .length) a b) (before g c) f))
           (written-outside g c fair (x .start) (x .start + x .length) (⊎-elim (λ y. inl (omega arith)) (λ y. inr (omega arith)) (h .side)))
 
@@ -195,7 +190,7 @@ module _ (g : Ground) (c : Change) (fair : Fair g c) (limit : ℕ) (pos : 0 < li
   module _ (sectors : limit % g .sector ≡ 0) where
     pub wanted-sound : every (wantedSound (g .sector)) (wanted g c limit) ≡ true
     wanted-sound =
-        every-wanted (wantedSound (g .sector))
+        every-append (wantedSound (g .sector)) (sectorsWanted g c limit) (piecesWanted g c limit)
         (every-sector (wantedSound (g .sector))
         (λ r u n. let i = inside g c r u in are-wanted (g .sector) (sectorWanted g r) (record { start = i .start; sectors = mod-self (g .sector); some = omega (arith, sector-some g c fair); ends = omega (arith, i .high, fair .limit); kind = refl })))
         (every-piece (wantedSound (g .sector))

@@ -1,11 +1,18 @@
 -- The pieces of a hole lie one behind the other over all of it. Assumes nothing.
+use mathlib.Core.Bool.{true}
 use mathlib.Core.Path.{_≡_, refl, ap, _∙_}
 use Prim.Native.Nat.{ℕ, zero, suc, _+_, _-_, _*_, _/_, _%_, _<_, _≤_, _∣_}
 use native.Mathlib.Omega.{arith}
 use native.Mathlib.Nat.{add-zero, zero-add, suc-mul, add-mul, one-mul, mul-le-mul-right, div-mul-le-self, lt-div-mul-add, div-lt-iff-lt-mul, le-div-iff-mul-le, dvd-add, dvd-sub, dvd-mul-left-of-dvd, dvd-of-mod-eq-zero, mod-eq-zero-of-dvd}
 use lib.ListN.{length, getD}
-use Rattle.change.specs.Preallocs.{Span, pieceCount, nthPiece, piecesFrom, preallocPieces}
+use Rattle.request.specs.Lent.{sectorSound}
+use Rattle.request.proofs.Stages.{sector-is}
+use Rattle.change.specs.Preallocs.{Span, pieceLimit, pieceCount, nthPiece, piecesFrom, preallocPieces}
 use Rattle.change.proofs.Rounding.{up-above}
+
+-- the limit is whole sectors
+pub limit-whole : (s : ℕ) → sectorSound s ≡ true → pieceLimit % s ≡ 0
+limit-whole = sector-is (λ (s : ℕ). pieceLimit % s ≡ 0) refl refl refl refl refl
 
 -- ---- the list
 

@@ -1,16 +1,16 @@
 -- What each offset maps to after a change. Assumes nothing.
 use mathlib.Core.Path.{_≡_, refl, _∙_, sym}
 use mathlib.Core.Bool.{Bool, true, false, cond, _&&_, _||_, not, false≢true}
-use mathlib.Core.List.{List, [], _∷_, _++_, map, flatMap}
+use mathlib.Core.List.{List, [], _∷_, flatMap}
 use mathlib.Core.Logic.{_⊎_, inl, inr, ⊎-elim}
-use mathlib.Core.Option.{Option, none, some}
+use mathlib.Core.Option.{none, some}
 use Prim.Native.Nat.{ℕ, _+_, _%_, _<_, _≤_}
 use native.Mathlib.Omega.{arith}
 use lib.Dec.{eqb, leb, ltb}
 use borrow.Author.Tests.{eqb-true, leb-true, ltb-true, le-leb, lt-ltb, not-true}
 use Rattle.records.specs.Stages.{every}
-use Rattle.records.specs.Select.{keep, any, count}
-use Rattle.records.proofs.Tests.{both, both-left, both-right, either-left, either-right, implied, every-map, every-both, every-picked}
+use Rattle.records.specs.Select.{keep, any}
+use Rattle.records.proofs.Tests.{both, both-left, both-right, either, either-left, either-right, every-map, every-both, every-picked}
 use Rattle.item.specs.Items.{Fields, ranged, hole, end}
 use Rattle.lists.specs.Lists.{itemSound}
 use Rattle.lists.proofs.Order.{item-ranged}
@@ -19,7 +19,6 @@ use Rattle.cut.specs.Pieces.{Piece, itemsOf, insertAll}
 use Rattle.cut.proofs.Mappings.{misses, fits, joins-show, cut-outside, cut-inside, insertAll-misses}
 use Rattle.cut.proofs.Kept.{clear, every-insertAll}
 use Rattle.cut.proofs.Counts.{count-any, any-count, insertAll-counts}
-use Rattle.refs.specs.Drops.{Held}
 use Rattle.plan.specs.Places.{Wanted, placeSound, placesSound}
 use Rattle.plan.proofs.Places.{places-count}
 use Rattle.change.specs.Preallocs.{Span, pieceCount, nthPiece, preallocPieces}
@@ -28,9 +27,9 @@ use Rattle.change.specs.Changes.{Change, before, newItems, piecesWritten
 use Rattle.change.proofs.Preallocs.{piece-inside, piece-holds}
 use Rattle.change.proofs.Rewrites.{in-place-some}
 use Rattle.change.proofs.Fair.{Fair, rewriteInside, holeInside, holeFree}
-use Rattle.change.proofs.Each.{any-some, any-append, every-mapped, any-mapped, every-flat, any-flat, each-every, each-any, newItem, new-every, new-any, pieces-every, pieces-any}
-use Rattle.change.proofs.Items.{clear-facts, clear-cut, holder-facts, inside, hole-facts, itemsInPlace, written-outside, written-named, joined-clear}
-use Rattle.change.proofs.News.{sectorWanted, pieceWanted, place-some, adds-sound, every-piece, every-wanted}
+use Rattle.change.proofs.Each.{any-some, every-append, any-append, every-mapped, any-mapped, every-flat, any-flat, each-every, each-any, newItem, new-every, new-any, pieces-every, pieces-any}
+use Rattle.change.proofs.Items.{clear-facts, clear-cut, holder-facts, inside, hole-facts, itemsInPlace, written-outside, joined-clear}
+use Rattle.change.proofs.News.{sectorWanted, pieceWanted, place-some, adds-sound, every-piece}
 use Rattle.change.proofs.Steps.{cutItems, joins-made, kept-written, ranged-written}
 
 -- ---- an offset in a stretch
@@ -44,7 +43,7 @@ lies-facts o a b h = (leb-true a o (both-left (leb a o) (ltb o b) h), ltb-true o
 lies-in : (o a b : ℕ) → a ≤ o → o < b → lies o a b ≡ true
 lies-in o a b p q = both (leb a o) (ltb o b) (le-leb a o p) (lt-ltb o b q)
 
-lies-off : (o a b : ℕ) → (a ≤ o → o < b → ⊥) → not (lies o a b) ≡ true
+pub lies-off : (o a b : ℕ) → (a ≤ o → o < b → ⊥) → not (lies o a b) ≡ true
 lies-off o a b h = go (lies o a b) refl
   where
     go : (t : Bool) → lies o a b ≡ t → not t ≡ true
@@ -79,7 +78,7 @@ on-holds o f n h = both (named f) (lies o (f .key) (end f)) n h
 -- ---- lists that hold an offset
 
 -- where an item holds it, the offset leads into one that does
-shown-some : (o : ℕ) (q : Fields → Bool) (fs : List Fields) → any (holds o) fs ≡ true → every (λ (f : Fields). not (holds o f) || q f) fs ≡ true
+pub shown-some : (o : ℕ) (q : Fields → Bool) (fs : List Fields) → any (holds o) fs ≡ true → every (λ (f : Fields). not (holds o f) || q f) fs ≡ true
     → (f : Fields) × (q f ≡ true) × (mapping o fs ≡ some (mappingIn o f))
 unfolding any every mapping
 shown-some o q [] h k = absurd (false≢true h)
@@ -94,7 +93,7 @@ shown-some o q (f ∷ fs) h k =
     go false e h k s = s h
 
 -- and where it leads somewhere, an item holds it
-shown-held : (o : ℕ) (fs : List Fields) (m : Mapping) → mapping o fs ≡ some m → any (holds o) fs ≡ true
+pub shown-held : (o : ℕ) (fs : List Fields) (m : Mapping) → mapping o fs ≡ some m → any (holds o) fs ≡ true
 unfolding any mapping
 shown-held o [] m h = let z : _≡_ {A = ℕ} 0 1 = cc in absurd (omega arith)
 shown-held o (f ∷ fs) m h = go (holds o f) h (shown-held o fs m)
@@ -112,6 +111,10 @@ every-any : {A : Type 0} (l : List A) → every (λ (a : A). true) l ≡ true
 unfolding every
 every-any [] = refl
 every-any (a ∷ l) = every-any l
+
+-- where nothing is asked of them
+pub unasked : (o : ℕ) (fs : List Fields) → every (λ (f : Fields). not (holds o f) || true) fs ≡ true
+unasked o fs = every-map (λ (f : Fields). true) (λ (f : Fields). not (holds o f) || true) (λ f e. either-right (not (holds o f)) true refl) fs (every-any fs)
 
 -- one passes, and another test or not
 any-split : {A : Type 0} (p q : A → Bool) (l : List A) → any p l ≡ true → (any (λ (a : A). p a && q a) l ≡ true) ⊎ (any (λ (a : A). p a && not (q a)) l ≡ true)
@@ -166,9 +169,6 @@ module _ (g : Ground) (c : Change) (fair : Fair g c) (o : ℕ) where
       (λ r k x u s. on-holds o (itemInPlace g r k) (rw (holder-facts g r k s .solid) refl) (both-left (onSector g o r) (inPlace g r) x))
       (λ r x. in-place-some g r .0 (both-right (onSector g o r) (inPlace g r) x)) (c .rewrites) h (every-any (c .rewrites))))
 
-  every-anything : (fs : List Fields) → every (λ (f : Fields). not (holds o f) || true) fs ≡ true
-  every-anything fs = every-map (λ (f : Fields). true) (λ (f : Fields). not (holds o f) || true) (λ f e. either-right (not (holds o f)) true refl) fs (every-any fs)
-
   -- outside the cut no sector is rewritten, inside there is no hole
   outside-sectors : (o < c .lo) ⊎ (c .hi ≤ o) → every (λ (r : Rewrite). not (onSector g o r)) (c .rewrites) ≡ true
   outside-sectors out =
@@ -205,7 +205,7 @@ module _ (g : Ground) (c : Change) (fair : Fair g c) (o : ℕ) where
         (new-every g (placeSound (g .rows)) (λ (w : Wanted). not (onWanted o w)) (λ (x : Fields). not (holds o x)) (λ p w v u. off-holds o (newItem g p w) u) places (wanted g c limit) (adds-sound g c fair limit pos sectors places sound) h)
 
     off-wanted : every (λ (r : Rewrite). not (onSector g o r)) (c .rewrites) ≡ true → every (λ (s : Span). not (onHole o s)) (c .holes) ≡ true → every (λ (w : Wanted). not (onWanted o w)) (wanted g c limit) ≡ true
-    off-wanted h k = every-wanted g c fair limit pos (λ (w : Wanted). not (onWanted o w)) (sectors-off h) (pieces-off k)
+    off-wanted h k = every-append (λ (w : Wanted). not (onWanted o w)) (sectorsWanted g c limit) (piecesWanted g c limit) (sectors-off h) (pieces-off k)
 
     -- ---- where nothing is put
 
@@ -242,13 +242,13 @@ module _ (g : Ground) (c : Change) (fair : Fair g c) (o : ℕ) where
         let fr : holeFree (before g c) s ≡ true = both-right (holeInside g c s) (holeFree (before g c) s) (y .2) in
         let out : (o < c .lo) ⊎ (c .hi ≤ o) = ⊎-elim (λ x. inl (omega arith)) (λ x. inr (omega arith)) (k .side) in
         let none : every (clear (s .start) (s .start + s .length)) (itemsOf (piecesJoined g c)) ≡ true =
-            joined-clear g c fair (s .start) (s .start + s .length) (omega arith) (clear-cut (s .start) (s .start + s .length) (c .lo) (c .hi) (before g c) fr) (written-outside g c fair (s .start) (s .start + s .length) (k .side)) in
+        joined-clear g c (s .start) (s .start + s .length) (omega arith) (clear-cut (s .start) (s .start + s .length) (c .lo) (c .hi) (before g c) fr) (written-outside g c fair (s .start) (s .start + s .length) (k .side)) in
         let z = shown-some o (λ (f : Fields). eqb (f .kind) 2) (itemsOf (piecesAfter g c limit places))
-            (held-insert o (newItems g places (wanted g c limit)) (piecesJoined g c) (inl (new-holds (any-append (heldWanted o) (sectorsWanted g c limit) (piecesWanted g c limit) (either-right (any (heldWanted o) (sectorsWanted g c limit)) (any (heldWanted o) (piecesWanted g c limit)) there)))))
-            (every-insertAll (λ (f : Fields). not (holds o f) || eqb (f .kind) 2) (newItems g places (wanted g c limit)) (piecesJoined g c) (kinds out)
-            (every-map (clear (s .start) (s .start + s .length)) (λ (f : Fields). not (holds o f) || eqb (f .kind) 2)
-            (λ f e. either-left (not (holds o f)) (eqb (f .kind) 2) (rw (misses o f (λ a b. ⊎-elim (λ x. omega arith) (λ x. omega arith) (clear-facts (s .start) (s .start + s .length) f e))) refl))
-            (itemsOf (piecesJoined g c)) none)) in
+        (held-insert o (newItems g places (wanted g c limit)) (piecesJoined g c) (inl (new-holds (any-append (heldWanted o) (sectorsWanted g c limit) (piecesWanted g c limit) (either-right (any (heldWanted o) (sectorsWanted g c limit)) (any (heldWanted o) (piecesWanted g c limit)) there)))))
+        (every-insertAll (λ (f : Fields). not (holds o f) || eqb (f .kind) 2) (newItems g places (wanted g c limit)) (piecesJoined g c) (kinds out)
+        (every-map (clear (s .start) (s .start + s .length)) (λ (f : Fields). not (holds o f) || eqb (f .kind) 2)
+        (λ f e. either-left (not (holds o f)) (eqb (f .kind) 2) (rw (misses o f (λ a b. ⊎-elim (λ x. omega arith) (λ x. omega arith) (clear-facts (s .start) (s .start + s .length) f e))) refl))
+        (itemsOf (piecesJoined g c)) none)) in
         (mappingIn o (z .0), z .2, eqb-true (z .0 .kind) 2 (z .1))
       where
         there : any (heldWanted o) (piecesWanted g c limit) ≡ true
@@ -265,9 +265,9 @@ module _ (g : Ground) (c : Change) (fair : Fair g c) (o : ℕ) where
         kinds : (o < c .lo) ⊎ (c .hi ≤ o) → every (λ (f : Fields). not (holds o f) || eqb (f .kind) 2) (newItems g places (wanted g c limit)) ≡ true
         kinds out =
             new-every g (placeSound (g .rows)) (λ (w : Wanted). not (onWanted o w) || eqb (w .kind) 2) (λ (f : Fields). not (holds o f) || eqb (f .kind) 2)
-            (λ p w v u. ⊎-elim (λ x. either-left (not (holds o (newItem g p w))) (eqb (w .kind) 2) (off-holds o (newItem g p w) x)) (λ x. either-right (not (holds o (newItem g p w))) (eqb (w .kind) 2) x) (Rattle.records.proofs.Tests.either (not (onWanted o w)) (eqb (w .kind) 2) u))
+            (λ p w v u. ⊎-elim (λ x. either-left (not (holds o (newItem g p w))) (eqb (w .kind) 2) (off-holds o (newItem g p w) x)) (λ x. either-right (not (holds o (newItem g p w))) (eqb (w .kind) 2) x) (either (not (onWanted o w)) (eqb (w .kind) 2) u))
             places (wanted g c limit) (adds-sound g c fair limit pos sectors places sound)
-            (every-wanted g c fair limit pos (λ (w : Wanted). not (onWanted o w) || eqb (w .kind) 2)
+            (every-append (λ (w : Wanted). not (onWanted o w) || eqb (w .kind) 2) (sectorsWanted g c limit) (piecesWanted g c limit)
             (every-map (λ (w : Wanted). not (onWanted o w)) (λ (w : Wanted). not (onWanted o w) || eqb (w .kind) 2) (λ w x. either-left (not (onWanted o w)) (eqb (w .kind) 2) x) (sectorsWanted g c limit) (sectors-off (outside-sectors out)))
             (every-piece g c fair limit pos (λ (w : Wanted). not (onWanted o w) || eqb (w .kind) 2) (λ s i k f l. either-right (not (onWanted o (pieceWanted (nthPiece limit s i)))) true refl)))
 
@@ -276,8 +276,8 @@ module _ (g : Ground) (c : Change) (fair : Fair g c) (o : ℕ) where
     unfolding piecesAfter
     mapping-sector h =
         let z = shown-some o (λ (f : Fields). true) (itemsOf (piecesAfter g c limit places))
-            (held-insert o (newItems g places (wanted g c limit)) (piecesJoined g c) (⊎-elim (λ x. inr (kept-place x)) (λ x. inl (new-place x)) (any-split (onSector g o) (inPlace g) (c .rewrites) h)))
-            (every-anything (itemsOf (piecesAfter g c limit places))) in
+        (held-insert o (newItems g places (wanted g c limit)) (piecesJoined g c) (⊎-elim (λ x. inr (kept-place x)) (λ x. inl (new-place x)) (any-split (onSector g o) (inPlace g) (c .rewrites) h)))
+        (unasked o (itemsOf (piecesAfter g c limit places))) in
         (mappingIn o (z .0), z .2)
       where
         new-place : any (λ (r : Rewrite). onSector g o r && not (inPlace g r)) (c .rewrites) ≡ true → any (holds o) (newItems g places (wanted g c limit)) ≡ true
@@ -288,5 +288,5 @@ module _ (g : Ground) (c : Change) (fair : Fair g c) (o : ℕ) where
 
         kept-place : any (λ (r : Rewrite). onSector g o r && inPlace g r) (c .rewrites) ≡ true → any (holds o) (itemsOf (piecesJoined g c)) ≡ true
         kept-place x =
-            let z = shown-some o (λ (f : Fields). true) (itemsOf (piecesWritten g c)) (written-on x) (every-anything (itemsOf (piecesWritten g c))) in
+            let z = shown-some o (λ (f : Fields). true) (itemsOf (piecesWritten g c)) (written-on x) (unasked o (itemsOf (piecesWritten g c))) in
             shown-held o (itemsOf (piecesJoined g c)) (mappingIn o (z .0)) (joined-shown ∙ z .2)

@@ -1,20 +1,19 @@
 -- A change keeps the file's list well kept, and its edits give the items planned. Assumes nothing.
-use mathlib.Core.Path.{_≡_, refl}
-use mathlib.Core.Bool.{Bool, true}
+use mathlib.Core.Path.{_≡_}
+use mathlib.Core.Bool.{true}
 use mathlib.Core.List.{List}
-use Prim.Native.Nat.{ℕ, _+_, _%_, _<_}
+use Prim.Native.Nat.{ℕ, _%_, _<_}
 use native.Mathlib.Omega.{arith}
-use Rattle.records.specs.Stages.{every, pairs}
-use Rattle.item.specs.Items.{Fields, ranged, end}
+use Rattle.records.specs.Stages.{every}
+use Rattle.item.specs.Items.{Fields, ranged}
 use Rattle.lists.specs.Lists.{apart, whole}
 use Rattle.lists.proofs.Laws.{Kept}
 use Rattle.cut.specs.Pieces.{Piece, itemsOf, cutPieces}
 use Rattle.cut.specs.Edits.{itemsAfter}
 use Rattle.cut.proofs.Mappings.{Joins, joins-all}
 use Rattle.cut.proofs.Kept.{allApart, clear-apart, cut-clear, From, kept-from, from-keeps, from-cut, from-insertAll, from-joins, ranged-cut, whole-cut, every-insertAll, ranged-joins, whole-joins}
-use Rattle.cut.proofs.Applied.{edits-applied, From as Drawn, from-cut as drawn-cut, from-insertAll as drawn-insertAll, from-joinAll as drawn-joinAll}
+use Rattle.cut.proofs.Applied.{edits-applied, from-cut as drawn-cut, from-insertAll as drawn-insertAll, from-joinAll as drawn-joinAll}
 use Rattle.refs.specs.Drops.{Held}
-use Rattle.plan.specs.Plans.{Plan}
 use Rattle.plan.specs.Places.{placesSound}
 use Rattle.change.specs.Rewrites.{Ground, Rewrite, newGeneration, itemInPlace, eachInPlace}
 use Rattle.change.specs.Changes.{Change, before, newItems, piecesWritten, piecesJoined, piecesAfter, wanted, planOf}

@@ -3,3 +3,4 @@ pub mod Less
 pub mod Holes
 pub mod Planned
 pub mod Fair
+pub mod Shown

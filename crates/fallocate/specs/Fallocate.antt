@@ -106,10 +106,12 @@ abbrev pub fallocateLent : Volume → File → Range → (keepSize : Bool) → (
 fallocateLent v f r keepSize list shared table places rooms =
     refusedOr (first (listBroken list) (tableBroken table)) (fallocate v f r keepSize (items list) shared (rows table) places rooms)
 
--- fallocate(2) on mappings: "allocates the disk space within the range"; what was there keeps its mapping, but for the
--- sector of the old end, [endSector, endStop)
+-- fallocate(2) on mappings: "allocates the disk space within the range"; what was a hole is preallocated, so that it still
+-- reads as zeros ("initialized to zero"); what was there keeps its mapping, but for the sector of the old end,
+-- [endSector, endStop)
 pub record Allocated (from to endSector endStop : ℕ) (before after : ℕ → Option Mapping) : Type 0 where
   pub mapped : (o : ℕ) → from ≤ o → o < to → after o ≡ none → ⊥
+  pub filled : (o : ℕ) → from ≤ o → o < to → (endSector ≤ o → o < endStop → ⊥) → before o ≡ none → (m : Mapping) × (after o ≡ some m) × (m .kind ≡ 2)
   pub kept : (o : ℕ) (m : Mapping) → (endSector ≤ o → o < endStop → ⊥) → before o ≡ some m → after o ≡ some m
   pub below : (o : ℕ) → o < from → (endSector ≤ o → o < endStop → ⊥) → after o ≡ before o
   pub above : (o : ℕ) → to ≤ o → (endSector ≤ o → o < endStop → ⊥) → after o ≡ before o

@@ -1,5 +1,9 @@
 pub mod Lawful
 pub mod Files
 pub mod Cloning
+pub mod Changing
+pub mod Fallocating
+pub mod Punching
 pub mod Refusing
 pub mod Every
+pub mod Demand3

@@ -21,13 +21,9 @@ use Rattle.apply.specs.Apply.{linesAt, gained, lost, netSound}
 use Rattle.apply.proofs.Rows.{count-some, kept-mem, addsAt}
 use Rattle.history.specs.States.{State, listOf, total, TrueTable}
 use Rattle.history.specs.Calls.{Call, lentOf}
-use Rattle.history.specs.Claims.{addRef}
+use Rattle.history.specs.Claims.{addRef, countFits}
 use Rattle.history.proofs.Lawful.{itemsBefore, itemsNow, Lawful}
 use Rattle.history.proofs.Files.{total-one}
-
--- the upper half of the test of a net count
-abbrev pub countFits : Plan → Row → Bool
-countFits p row = ltb (row .references + gained p (row .start) - lost p (row .start)) (2 ^ 64)
 
 module _ (sector : ℕ) (s : State) (c : Call) (p : Plan) (law : Lawful sector s c p) (t : TrueTable s) (kept : tableKept (s .rows) ≡ true) where
   -- an extent with a row has no add

@@ -1,15 +1,18 @@
--- Demand 3, as one claim about the whole list of calls.
-use mathlib.Core.Bool.{Bool, true, cond}
+-- Demand 3, as one claim about the whole list of calls, and what applying may refuse of a call's plan.
+use mathlib.Core.Bool.{Bool, true, cond, _&&_}
 use mathlib.Core.List.{List, [], _∷_}
 use mathlib.Core.Path.{_≡_}
-use Prim.Native.Nat.{ℕ, _+_, _≤_, _<_}
-use lib.Dec.{eqb}
-use Rattle.records.specs.Stages.{every}
+use Prim.Native.Nat.{ℕ, _+_, _-_, _≤_, _<_, _^_}
+use lib.Dec.{eqb, leb, ltb}
+use lib.ListN.{length}
+use Rattle.records.specs.Stages.{unless, first, every}
 use Rattle.records.specs.Select.{count}
+use Rattle.table.specs.declared.Row.{Row}
 use Rattle.lists.specs.Lists.{wellKept}
 use Rattle.cut.specs.Mappings.{mapping}
 use Rattle.cut.specs.Refs.{Ref, sameRef, referring}
 use Rattle.plan.specs.Plans.{Plan, Add}
+use Rattle.apply.specs.Apply.{gained, lost, netSound, itemsNow, rowsNow, applyRefusal}
 use Rattle.history.specs.States.{State, listOf, total, TrueTable}
 use Rattle.history.specs.Calls.{Call, Lent, Stretch, Applied, lentOf, changes, run, trace}
 
@@ -77,3 +80,26 @@ pub record Demand3 (sector : ℕ) (s : State) (cs : List Call) : Type 0 where
   pub kept : StayKept s (run sector s cs)
   pub mappings : Each (MappingsKept sector) (trace sector s cs)
   pub counts : TrueTable s → every unmarked cs ≡ true → CountsTrue s (run sector s cs) (trace sector s cs)
+
+-- ---- applying
+
+-- a net count is not over 2^64 − 1
+abbrev pub countFits : Plan → Row → Bool
+countFits p row = ltb (row .references + gained p (row .start) - lost p (row .start)) (2 ^ 64)
+
+module _ (sector : ℕ) (s : State) (c : Call) (p : Plan) where
+  abbrev pub refusedWith : ℕ
+  refusedWith = applyRefusal sector (lentOf c .number) (lentOf c .generation + 1) (listOf (lentOf c .number) (s .files)) (s .rows) p
+
+  -- "1 if the result is over-long"
+  abbrev pub overLong : ℕ
+  overLong =
+      unless
+      (leb (length (itemsNow sector (lentOf c .number) (lentOf c .generation + 1) (listOf (lentOf c .number) (s .files)) (s .rows) p)) 65536
+      && leb (length (rowsNow sector (lentOf c .number) (lentOf c .generation + 1) (listOf (lentOf c .number) (s .files)) (s .rows) p)) 65536) 1
+
+  -- of a call's plan applying refuses, beside too little room, only an over-long result and a net count that leaves 64 bits,
+  -- with a true table only one over 2^64 − 1: no list, table, row or result that is broken
+  pub record RefusedOnly : Type 0 where
+    pub any : refusedWith ≡ first overLong (unless (every (netSound p) (s .rows)) 3)
+    pub counted : TrueTable s → refusedWith ≡ first overLong (unless (every (countFits p) (s .rows)) 3)

@@ -3,3 +3,5 @@ pub mod Planned
 pub mod Starts
 pub mod Shapes
 pub mod Fair
+pub mod Shown
+pub mod Writes

@@ -40,7 +40,7 @@ pairs-two t false false a b h = refl
 
 module _ (s : ℕ) (pos : 0 < s) where
   -- the sector that an offset is in
-  sector-of : (y o : ℕ) → y % s ≡ 0 → y ≤ o → o < y + s → y ≡ roundDown s o
+  pub sector-of : (y o : ℕ) → y % s ≡ 0 → y ≤ o → o < y + s → y ≡ roundDown s o
   sector-of y o w l h =
       elim (decLt y (roundDown s o)) [
         | yes m ↦ absurd (omega (arith, whole-next s pos y (roundDown s o) w (down-whole s pos o) m, down-below s pos o))
