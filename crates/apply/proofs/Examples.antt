@@ -1,6 +1,6 @@
 -- Plans applied, computed: planned ones, and ones that no planner makes.
 use mathlib.Core.Path.{_≡_, refl}
-use mathlib.Core.Bool.{Bool, true, false}
+use mathlib.Core.Bool.{Bool, false}
 use mathlib.Core.List.{List, [], _∷_, map, flatMap}
 use Prim.Native.Nat.{ℕ, _-_, _^_}
 use Rattle.records.specs.Stages.{first, firstOf, stage, every, pairs, neighbours}

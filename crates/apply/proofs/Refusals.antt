@@ -1,20 +1,20 @@
 -- What applying can still refuse of a plan that was accepted: an over-long result (1), or a net count that leaves 64 bits
 -- (3). Assumes nothing.
-use mathlib.Core.Path.{_≡_, refl, ap, _∙_}
-use mathlib.Core.Bool.{Bool, true, false, cond, _&&_, not}
-use mathlib.Core.List.{List, [], _∷_, _++_, map}
-use Prim.Native.Nat.{ℕ, _+_, _<_, _≤_}
+use mathlib.Core.Path.{_≡_, ap}
+use mathlib.Core.Bool.{Bool, true, _&&_}
+use mathlib.Core.List.{List, _++_, map}
+use Prim.Native.Nat.{ℕ, _+_}
 use lib.Dec.{leb}
 use lib.ListN.{length}
 use Rattle.records.specs.Stages.{unless, first, firstOf, stage, every, pairs}
-use Rattle.records.proofs.Tests.{both, first-go, first-last}
+use Rattle.records.proofs.Tests.{both, first-last}
 use Rattle.item.specs.Items.{Fields}
 use Rattle.table.specs.declared.Row.{Row}
 use Rattle.table.specs.Rows.{rowSound, tableKept}
 use Rattle.lists.specs.Lists.{wellKept, whole}
 use Rattle.request.specs.Lent.{sectorSound}
 use Rattle.plan.specs.Plans.{Plan, Add}
-use Rattle.apply.specs.Apply.{rowMissing, netSound, editsRise, itemsNow, rowsNow, rowOfAdd, rowsAfter, applyRefusal}
+use Rattle.apply.specs.Apply.{rowMissing, netSound, editsRise, itemsNow, rowsNow, rowOfAdd, applyRefusal}
 use Rattle.apply.proofs.Table.{rowsClear, rows-kept}
 
 -- what a plan that was accepted brings along

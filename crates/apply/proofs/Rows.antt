@@ -1,16 +1,17 @@
 -- Laws of applying: what an accepted plan has passed, and which rows the table has after it. Assumes nothing.
-use mathlib.Core.Path.{_≡_, refl, _∙_, sym}
+use mathlib.Core.Path.{_≡_, refl, _∙_}
 use mathlib.Core.Bool.{Bool, true, false, cond, _&&_, not}
 use mathlib.Core.List.{List, [], _∷_, _++_, map, List·Memᴰ, List·Memᴰ·head, List·Memᴰ·tail}
 use Prim.Native.Nat.{ℕ, zero, suc, _+_, _-_, _<_, _≤_}
 use native.Mathlib.Omega.{arith}
 use native.Mathlib.Decide.{decLt}
 use lib.Dec.{eqb, ltb}
-use lib.ListN.{length, getD}
+use lib.ListN.{getD}
 use borrow.Author.Tests.{eqb-true, eq-eqb}
 use Rattle.records.specs.Stages.{firstOf, stage, every}
-use Rattle.records.specs.Select.{keep, any, count}
+use Rattle.records.specs.Select.{keep, count}
 use Rattle.records.proofs.Tests.{both, both-left, both-right, firstOf-zero, unless-zero, stage-zero}
+use Rattle.records.proofs.Counts.{count-append, count-map, count-keep, count-most, count-some, mem-at, at-count, any-none}
 use Rattle.item.specs.Items.{Fields}
 use Rattle.table.specs.declared.Row.{Row}
 use Rattle.table.specs.declared.Found.the-variants.{At, Missing}
@@ -20,42 +21,8 @@ use Rattle.lists.specs.Lists.{wellKept, whole}
 use Rattle.cut.specs.Pieces.{itemsOf}
 use Rattle.cut.specs.Edits.{itemsAfter}
 use Rattle.cut.specs.Refs.{Ref}
-use Rattle.cut.proofs.Counts.{count-append, count-map, count-keep, count-most, any-count}
 use Rattle.plan.specs.Plans.{Plan, Add}
 use Rattle.apply.specs.Apply.{linesAt, gained, lost, goes, moved, rowOfAdd, insertRow, insertRows, rowsAfter, rowMissing, applyRefusal, Applying, applied, refusal, orApplied, apply}
-
--- ---- counts in any list
-
-module _ {A : Type 0} where
-  -- some pass: one of the list does
-  pub count-some : (p : A → Bool) (l : List A) → 0 < count p l → (a : A) × List·Memᴰ a l × (p a ≡ true)
-  unfolding count
-  count-some p [] h = absurd (omega arith)
-  count-some p (a ∷ l) h = go (p a) refl (count-some p l) h
-    where
-      go : (b : Bool) → p a ≡ b → (0 < count p l → (x : A) × List·Memᴰ x l × (p x ≡ true)) → 0 < cond b 1 0 + count p l → (x : A) × List·Memᴰ x (a ∷ l) × (p x ≡ true)
-      go true e f h = (a, List·Memᴰ·head refl, e)
-      go false e f h = let s = f (omega arith) in (s .0, List·Memᴰ·tail (s .1), s .2)
-
-  -- what is in a list has a number there
-  mem-at : {a : A} {l : List A} → List·Memᴰ a l → (e : A) → (i : ℕ) × (i < length l) × (getD l i e ≡ a)
-  mem-at (List·Memᴰ·head h) e = (0, omega arith, sym h)
-  mem-at (List·Memᴰ·tail m) e = let s = mem-at m e in (suc (s .0), omega (arith, s .1), s .2)
-
-  -- one that passes is counted
-  at-count : (p : A → Bool) (l : List A) (i : ℕ) (e : A) → i < length l → p (getD l i e) ≡ true → 0 < count p l
-  unfolding count
-  at-count p [] i e l h = absurd (omega arith)
-  at-count p (a ∷ m) zero e l h = rw h (omega arith)
-  at-count p (a ∷ m) (suc i) e l h = omega (arith, at-count p m i e (omega arith) h)
-
-  -- none counted: none passes
-  any-none : (p : A → Bool) (l : List A) → count p l ≡ 0 → any p l ≡ false
-  any-none p l h = go (any p l) refl
-    where
-      go : (b : Bool) → any p l ≡ b → b ≡ false
-      go true e = absurd (omega (arith, any-count p l e))
-      go false e = refl
 
 -- ---- a kept table
 

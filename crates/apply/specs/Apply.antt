@@ -1,7 +1,7 @@
 -- Applying a plan (document 01, "The leaves"): "Applying a plan to a list is `items_after`. Applying it to the table is
 -- ours: shares, unrefs and releases move the count, a released row goes, an add makes a row (references 1, new generation,
 -- keyed 0)." It is total: on plans that no planner made too.
-use mathlib.Core.Bool.{Bool, true, false, cond, _&&_, not}
+use mathlib.Core.Bool.{Bool, cond, _&&_, not}
 use mathlib.Core.List.{List, [], _∷_, _++_, map}
 use Prim.Native.Nat.{ℕ, zero, suc, _+_, _-_, _^_}
 use lib.Dec.{eqb, leb, ltb}

@@ -1,6 +1,6 @@
 -- A plan as it is lent to applying: the parts that the outputs of an operation hold (plan/specs/Outputs), read back. Any
 -- bytes are a plan or are refused with 1.
-use mathlib.Core.Bool.{Bool, true, false, cond, _&&_, _||_}
+use mathlib.Core.Bool.{Bool, false, cond, _&&_, _||_}
 use mathlib.Core.List.{List, [], _∷_}
 use Prim.Native.Nat.{ℕ, _%_}
 use lib.Dec.{eqb}

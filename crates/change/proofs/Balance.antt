@@ -11,7 +11,9 @@ use borrow.Author.Tests.{eqb-true, ltb-true, eq-eqb, ne-eqb, le-ltb, not-true}
 use Rattle.records.specs.Stages.{every, pairs}
 use Rattle.records.specs.Select.{keep, any, count}
 use Rattle.records.proofs.Tests.{both, both-left, both-right, either-left, either-right, every-map, every-both, every-at, firstOf-zero}
-use Rattle.item.specs.Items.{Fields, ranged, hole, end, reference}
+use Rattle.records.proofs.Lists.{any-mem, any-some, at-every, every-mapped, any-mapped, every-listed}
+use Rattle.records.proofs.Counts.{count-append, count-map, count-keep, count-none, count-where, count-any, any-count, count-most}
+use Rattle.item.specs.Items.{Fields, ranged, hole, end}
 use Rattle.lists.specs.Lists.{itemSound, rises}
 use Rattle.lists.proofs.Order.{item-ranged}
 use Rattle.table.specs.declared.Row.{Row}
@@ -24,7 +26,7 @@ use Rattle.cut.specs.Pieces.{Piece, itemsOf, insertAll}
 use Rattle.cut.specs.Joins.{past, joinAll}
 use Rattle.cut.specs.Refs.{Ref, refOf, refPasses, names, naming}
 use Rattle.cut.proofs.Kept.{clear, cut-clear, ranged-cut, every-insertAll}
-use Rattle.cut.proofs.Counts.{OfJoins, lastAt, joinAll-same, passes-pieces, passes-joins, count-append, count-map, count-keep, count-none, count-where, count-most, count-any, any-count, cut-count, insertAll-counts}
+use Rattle.cut.proofs.Counts.{OfJoins, lastAt, joinAll-same, passes-pieces, passes-joins, cut-count, insertAll-counts}
 use Rattle.refs.specs.Compared.{among, comparedUnrefs}
 use Rattle.refs.specs.Drops.{Held, dropsRefusal, releases, unrefs}
 use Rattle.refs.proofs.Compared.{among-listed, compared-balance, shares-other}
@@ -35,7 +37,7 @@ use Rattle.plan.proofs.Places.{places-count, placed-length, placed-at, place-mi
 use Rattle.change.specs.Rewrites.{Ground, itemInPlace, newGeneration}
 use Rattle.change.specs.Changes.{Change, before, newItems, piecesWritten, piecesJoined, extentsInPlace, splitRefs, sharesCompared, drops, changeRefusal, piecesAfter, wanted, planOf}
 use Rattle.change.proofs.Fair.{Fair, rewriteInside}
-use Rattle.change.proofs.Each.{every-listed, any-some, any-mem, at-every, every-mapped, any-mapped, each-every, each-map, new-count}
+use Rattle.change.proofs.Each.{each-every, each-map, new-count}
 use Rattle.change.proofs.Items.{clear-facts, holder-facts, inside, sector-some, itemsInPlace}
 use Rattle.change.proofs.News.{wantedSound, wants, place-some, new-reference, wanted-sound, adds-sound}
 use Rattle.change.proofs.Steps.{cutItems, kept-cut-items, kept-written}

@@ -3,10 +3,10 @@
 use mathlib.Core.Bool.{Bool, true, _&&_, _||_}
 use mathlib.Core.List.{List}
 use mathlib.Core.Path.{_≡_}
-use Prim.Native.Nat.{ℕ, _+_, _%_, _≤_, _<_, _^_}
-use lib.Dec.{eqb, leb, ltb}
+use Prim.Native.Nat.{ℕ, _+_, _%_, _≤_, _^_}
+use lib.Dec.{eqb, leb}
 use Rattle.records.specs.Stages.{every, pairs}
-use Rattle.item.specs.Items.{Fields, ranged, end}
+use Rattle.item.specs.Items.{Fields, ranged}
 use Rattle.table.specs.Rows.{tableKept}
 use Rattle.lists.specs.Lists.{whole}
 use Rattle.lists.proofs.Laws.{Kept}

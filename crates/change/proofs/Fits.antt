@@ -1,41 +1,35 @@
 -- What a planned change brings along when it is applied. Assumes nothing.
 use mathlib.Core.Path.{_≡_, refl}
-use mathlib.Core.Bool.{Bool, true, false, _&&_, not}
+use mathlib.Core.Bool.{Bool, true, not}
 use mathlib.Core.List.{List, [], _∷_, _++_}
-use Prim.Native.Nat.{ℕ, _+_, _%_, _<_, _≤_}
-use native.Mathlib.Omega.{arith}
+use Prim.Native.Nat.{ℕ, _+_, _%_, _<_}
 use lib.Dec.{eqb, leb, ltb}
 use lib.ListN.{length}
-use borrow.Author.Tests.{eq-eqb, eqb-true, le-leb}
+use borrow.Author.Tests.{eqb-true, le-leb}
 use Rattle.records.specs.Stages.{stage, every, pairs}
 use Rattle.records.specs.Select.{any}
-use Rattle.records.proofs.Tests.{both, both-left, both-right, firstOf-zero, stage-zero, every-map, every-keep}
+use Rattle.records.proofs.Tests.{both, both-left, both-right, firstOf-zero, every-map, every-keep}
+use Rattle.records.proofs.Lists.{any-some, every-append, stage-none}
 use Rattle.table.specs.declared.Row.{Row}
 use Rattle.table.specs.Rows.{find, oneMoreReference}
 use Rattle.cut.specs.Refs.{Ref}
 use Rattle.cut.specs.Pieces.{itemsOf}
 use Rattle.cut.specs.Edits.{Edit, keyOf}
 use Rattle.cut.proofs.Applied.{edits-rise}
-use Rattle.refs.specs.Drops.{Held, releases, unrefs, dropsRefusal}
+use Rattle.refs.specs.Drops.{Held, releases, unrefs}
 use Rattle.refs.specs.Compared.{comparedUnrefs}
 use Rattle.refs.proofs.Compared.{unrefs-listed}
 use Rattle.refs.proofs.Drops.{isFound}
 use Rattle.refs.proofs.Lines.{rowed, more-rowed, releases-rowed, unrefs-rowed}
 use Rattle.plan.specs.Plans.{Plan, Add}
-use Rattle.plan.specs.Places.{Wanted, placed, placesApart, placeSound, placesSound}
+use Rattle.plan.specs.Places.{Wanted, placed, placesSound}
 use Rattle.change.specs.Rewrites.{Ground, Rewrite, rewriteRefusal}
 use Rattle.change.specs.Changes.{Change, before, piecesJoined, piecesAfter, extentsInPlace, splitRefs, sharesCompared, drops, changeRefusal, wanted, planOf}
 use Rattle.change.proofs.Rewrites.{rewrite-sound}
 use Rattle.change.proofs.Fair.{Fair}
-use Rattle.change.proofs.Each.{any-some, every-append, each-every, addAt}
+use Rattle.change.proofs.Each.{each-every}
 use Rattle.change.proofs.News.{wantedSound, wants, wanted-sound}
 use Rattle.change.proofs.Steps.{kept-after}
-
--- a stage that refuses nothing refuses no one
-stage-none : {A : Type 0} (f : A → ℕ) (l : List A) → stage f l ≡ 0 → every (λ (a : A). eqb (f a) 0) l ≡ true
-unfolding every
-stage-none f [] h = refl
-stage-none f (a ∷ l) h = let z = stage-zero f a l h in both (eqb (f a) 0) (every (λ a. eqb (f a) 0) l) (eq-eqb (f a) 0 (z .0)) (stage-none f l (z .1))
 
 module _ (g : Ground) (c : Change) (fair : Fair g c) (unrefused : changeRefusal g c ≡ 0) where
   abbrev found : ℕ → Bool

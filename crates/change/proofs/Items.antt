@@ -12,12 +12,13 @@ use lib.Dec.{eqb, leb, ltb}
 use borrow.Author.Tests.{eqb-true, leb-true, ltb-true, eq-eqb, le-leb, lt-ltb, not-true}
 use Rattle.records.specs.Stages.{every, pairs}
 use Rattle.records.proofs.Tests.{both, both-left, both-right, either, either-left, either-right}
+use Rattle.records.proofs.Lists.{every-mem, every-mapped}
 use Rattle.item.specs.Items.{Fields, ranged, hole, end, joined}
 use Rattle.lists.specs.Lists.{itemSound, rangeSound, apart, whole}
 use Rattle.lists.proofs.Order.{item-ranged}
 use Rattle.lists.proofs.Laws.{item-file, whole-facts}
 use Rattle.cut.specs.Cuts.{front, back}
-use Rattle.cut.specs.Mappings.{named, holds}
+use Rattle.cut.specs.Mappings.{named}
 use Rattle.cut.specs.Pieces.{itemsOf, cutPieces}
 use Rattle.cut.proofs.Mappings.{Joint, Joins, joins-all, joins-every}
 use Rattle.cut.proofs.Kept.{clear, within, clear-apart, every-cut, every-insertAll}
@@ -28,7 +29,7 @@ use Rattle.change.specs.Changes.{Change, before, piecesWritten, piecesJo
 use Rattle.change.proofs.Rounding.{sector-limit, whole-next}
 use Rattle.change.proofs.Rewrites.{holder-says, preallocated-says, in-place-some}
 use Rattle.change.proofs.Fair.{Fair, rewriteInside, rewritesRise, holeInside}
-use Rattle.change.proofs.Each.{every-mem, every-mapped, each-every, each-pairs}
+use Rattle.change.proofs.Each.{each-every, each-pairs}
 
 -- ---- clear of a stretch
 

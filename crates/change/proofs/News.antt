@@ -11,6 +11,7 @@ use lib.ListN.{length}
 use borrow.Author.Tests.{eqb-true, leb-true, eq-eqb, le-leb, not-true}
 use Rattle.records.specs.Stages.{every, pairs}
 use Rattle.records.proofs.Tests.{both, both-left, both-right, either-left, either-right, every-map, every-both, every-picked, pairs-picked}
+use Rattle.records.proofs.Lists.{every-append, pairs-append, every-mapped, pairs-mapped, every-flat, pairs-flat}
 use Rattle.item.specs.Items.{Fields, ranged, hole, reference}
 use Rattle.lists.specs.Lists.{itemSound, apart, whole}
 use Rattle.table.specs.declared.Row.{Row}
@@ -23,7 +24,7 @@ use Rattle.change.specs.Rewrites.{Ground, Rewrite, inPlace}
 use Rattle.change.specs.Changes.{Change, before, newItems, piecesJoined, sectorsWanted, piecesWanted, wanted}
 use Rattle.change.proofs.Preallocs.{piece-some, piece-inside, piece-apart, piece-start-whole, piece-length-whole}
 use Rattle.change.proofs.Fair.{Fair, rewriteInside, rewritesRise, holeInside, holeFree, holesRise}
-use Rattle.change.proofs.Each.{every-append, pairs-append, every-mapped, pairs-mapped, every-flat, pairs-flat, newItem, addAt, new-every, new-pairs, pieces-every, pieces-pairs}
+use Rattle.change.proofs.Each.{newItem, addAt, new-every, new-pairs, pieces-every, pieces-pairs}
 use Rattle.change.proofs.Items.{clear-part, apart-clear, clear-cut, sound-item, whole-item, Inside, inside, Hole, hole-facts, sector-some, written-outside, written-elsewhere, joined-clear}
 
 -- ---- an extent wanted

@@ -10,6 +10,8 @@ use borrow.Author.Tests.{eqb-true, leb-true, ltb-true, eq-eqb, not-true}
 use Rattle.records.specs.Stages.{every}
 use Rattle.records.specs.Select.{any, count}
 use Rattle.records.proofs.Tests.{both, both-left, both-right, every-keep}
+use Rattle.records.proofs.Lists.{any-some, any-where}
+use Rattle.records.proofs.Counts.{count-append, count-apart, count-any, any-count}
 use Rattle.item.specs.Items.{Fields, ranged, hole, end}
 use Rattle.table.specs.declared.Row.{Row}
 use Rattle.table.specs.declared.Found.the-variants.{At}
@@ -18,7 +20,7 @@ use Rattle.cut.specs.Cuts.{touched, covered, split}
 use Rattle.cut.specs.Mappings.{named}
 use Rattle.cut.specs.Pieces.{itemsOf}
 use Rattle.cut.specs.Refs.{Ref, refOf, refPasses, names, naming}
-use Rattle.cut.proofs.Counts.{count-append, count-apart, count-any, any-count, insertAll-counts, join-naming}
+use Rattle.cut.proofs.Counts.{insertAll-counts, join-naming}
 use Rattle.refs.specs.Compared.{comparedUnrefs}
 use Rattle.refs.specs.Drops.{Held, dropsOf, releases, unrefs}
 use Rattle.refs.proofs.Compared.{shares-other, unrefs-other}
@@ -27,7 +29,6 @@ use Rattle.plan.specs.Places.{placesSound}
 use Rattle.change.specs.Rewrites.{Ground, newGeneration}
 use Rattle.change.specs.Changes.{Change, before, newItems, piecesWritten, piecesJoined, extentsInPlace, sharesCompared, drops, changeRefusal, piecesAfter, wanted, planOf}
 use Rattle.change.proofs.Fair.{Fair}
-use Rattle.change.proofs.Each.{any-some, any-where}
 use Rattle.change.proofs.Items.{itemsInPlace, written-named}
 use Rattle.change.proofs.Steps.{cutItems, sectorsInPlace}
 use Rattle.change.proofs.Balance.{otherRef, keptShares, listed-written, drops-counted, shares-counted, drops-zero, balance, adds-elsewhere}

@@ -11,6 +11,8 @@ use borrow.Author.Tests.{eqb-true, leb-true, ltb-true, le-leb, lt-ltb, not-true}
 use Rattle.records.specs.Stages.{every}
 use Rattle.records.specs.Select.{keep, any}
 use Rattle.records.proofs.Tests.{both, both-left, both-right, either, either-left, either-right, every-map, every-both, every-picked}
+use Rattle.records.proofs.Lists.{any-some, every-append, any-append, every-mapped, any-mapped, every-true, any-split, any-keep, every-flat, any-flat}
+use Rattle.records.proofs.Counts.{count-any, any-count}
 use Rattle.item.specs.Items.{Fields, ranged, hole, end}
 use Rattle.lists.specs.Lists.{itemSound}
 use Rattle.lists.proofs.Order.{item-ranged}
@@ -18,16 +20,16 @@ use Rattle.cut.specs.Mappings.{named, holds, Mapping, mappingIn, mapping}
 use Rattle.cut.specs.Pieces.{Piece, itemsOf, insertAll}
 use Rattle.cut.proofs.Mappings.{misses, fits, joins-show, cut-outside, cut-inside, insertAll-misses}
 use Rattle.cut.proofs.Kept.{clear, every-insertAll}
-use Rattle.cut.proofs.Counts.{count-any, any-count, insertAll-counts}
+use Rattle.cut.proofs.Counts.{insertAll-counts}
 use Rattle.plan.specs.Places.{Wanted, placeSound, placesSound}
 use Rattle.plan.proofs.Places.{places-count}
 use Rattle.change.specs.Preallocs.{Span, pieceCount, nthPiece, preallocPieces}
-use Rattle.change.specs.Rewrites.{Ground, Rewrite, preallocated, inPlace, newGeneration, itemInPlace}
+use Rattle.change.specs.Rewrites.{Ground, Rewrite, inPlace, newGeneration, itemInPlace}
 use Rattle.change.specs.Changes.{Change, before, newItems, piecesWritten, piecesJoined, piecesAfter, sectorsWanted, piecesWanted, wanted}
 use Rattle.change.proofs.Preallocs.{piece-inside, piece-holds}
 use Rattle.change.proofs.Rewrites.{in-place-some}
 use Rattle.change.proofs.Fair.{Fair, rewriteInside, holeInside, holeFree}
-use Rattle.change.proofs.Each.{any-some, every-append, any-append, every-mapped, any-mapped, every-flat, any-flat, each-every, each-any, newItem, new-every, new-any, pieces-every, pieces-any}
+use Rattle.change.proofs.Each.{each-every, each-any, newItem, new-every, new-any, pieces-every, pieces-any}
 use Rattle.change.proofs.Items.{clear-facts, clear-cut, holder-facts, inside, hole-facts, itemsInPlace, written-outside, joined-clear}
 use Rattle.change.proofs.News.{sectorWanted, pieceWanted, place-some, adds-sound, every-piece}
 use Rattle.change.proofs.Steps.{cutItems, joins-made, kept-written, ranged-written}
@@ -107,37 +109,9 @@ held-insert o xs ps h =
     count-any (holds o) (itemsOf (insertAll xs ps))
     (⊎-elim (λ x. omega (arith, insertAll-counts (holds o) xs ps, any-count (holds o) xs x)) (λ x. omega (arith, insertAll-counts (holds o) xs ps, any-count (holds o) (itemsOf ps) x)) h)
 
-every-any : {A : Type 0} (l : List A) → every (λ (a : A). true) l ≡ true
-unfolding every
-every-any [] = refl
-every-any (a ∷ l) = every-any l
-
 -- where nothing is asked of them
 pub unasked : (o : ℕ) (fs : List Fields) → every (λ (f : Fields). not (holds o f) || true) fs ≡ true
-unasked o fs = every-map (λ (f : Fields). true) (λ (f : Fields). not (holds o f) || true) (λ f e. either-right (not (holds o f)) true refl) fs (every-any fs)
-
--- one passes, and another test or not
-any-split : {A : Type 0} (p q : A → Bool) (l : List A) → any p l ≡ true → (any (λ (a : A). p a && q a) l ≡ true) ⊎ (any (λ (a : A). p a && not (q a)) l ≡ true)
-unfolding any
-any-split p q [] h = absurd (false≢true h)
-any-split p q (a ∷ l) h = go (p a) (q a) h (any-split p q l)
-  where
-    go : (b d : Bool) → (b || any p l) ≡ true → (any p l ≡ true → (any (λ a. p a && q a) l ≡ true) ⊎ (any (λ a. p a && not (q a)) l ≡ true))
-        → (((b && d) || any (λ a. p a && q a) l) ≡ true) ⊎ (((b && not d) || any (λ a. p a && not (q a)) l) ≡ true)
-    go true true h s = inl refl
-    go true false h s = inr refl
-    go false d h s = s h
-
-any-keep : {A : Type 0} (p q : A → Bool) (l : List A) → any (λ (a : A). p a && q a) l ≡ true → any p (keep q l) ≡ true
-unfolding any keep
-any-keep p q [] h = h
-any-keep p q (a ∷ l) h = go (p a) refl (q a) h (any-keep p q l)
-  where
-    go : (b : Bool) → p a ≡ b → (d : Bool) → ((b && d) || any (λ a. p a && q a) l) ≡ true → (any (λ a. p a && q a) l ≡ true → any p (keep q l) ≡ true) → any p (cond d (a ∷ keep q l) (keep q l)) ≡ true
-    go true e true h s = either-left (p a) (any p (keep q l)) e
-    go true e false h s = s h
-    go false e true h s = either-right (p a) (any p (keep q l)) (s h)
-    go false e false h s = s h
+unasked o fs = every-map (λ (f : Fields). true) (λ (f : Fields). not (holds o f) || true) (λ f e. either-right (not (holds o f)) true refl) fs (every-true fs)
 
 module _ (g : Ground) (c : Change) (fair : Fair g c) (o : ℕ) where
   -- ---- the items written in place, and the joins
@@ -167,7 +141,7 @@ module _ (g : Ground) (c : Change) (fair : Fair g c) (o : ℕ) where
       held-insert o (itemsInPlace g c) (cutItems g c)
       (inl (each-any g (itemInPlace g) (λ (r : Rewrite). onSector g o r && inPlace g r) (λ (r : Rewrite). true) (holds o)
       (λ r k x u s. on-holds o (itemInPlace g r k) (rw (holder-facts g r k s .solid) refl) (both-left (onSector g o r) (inPlace g r) x))
-      (λ r x. in-place-some g r .0 (both-right (onSector g o r) (inPlace g r) x)) (c .rewrites) h (every-any (c .rewrites))))
+      (λ r x. in-place-some g r .0 (both-right (onSector g o r) (inPlace g r) x)) (c .rewrites) h (every-true (c .rewrites))))
 
   -- outside the cut no sector is rewritten, inside there is no hole
   outside-sectors : (o < c .lo) ⊎ (c .hi ≤ o) → every (λ (r : Rewrite). not (onSector g o r)) (c .rewrites) ≡ true
@@ -260,7 +234,7 @@ module _ (g : Ground) (c : Change) (fair : Fair g c) (o : ℕ) where
             let n = piece-holds limit pos s o (on .0) (on .1) in
             pieces-any limit s (onHole o) 0 (pieceCount limit (s .length)) (n .0) (omega arith) (omega (arith, n .1))
             (lies-in o (nthPiece limit s (n .0) .start) (nthPiece limit s (n .0) .start + nthPiece limit s (n .0) .length) (n .2) (n .3)))
-            (c .holes) h (every-any (c .holes))
+            (c .holes) h (every-true (c .holes))
 
         kinds : (o < c .lo) ⊎ (c .hi ≤ o) → every (λ (f : Fields). not (holds o f) || eqb (f .kind) 2) (newItems g places (wanted g c limit)) ≡ true
         kinds out =

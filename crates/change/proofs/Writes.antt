@@ -1,6 +1,6 @@
 -- The sector writes of a change are its rewrites, one each. Assumes nothing.
 use mathlib.Core.Path.{_≡_, refl, ap, _∙_}
-use mathlib.Core.Bool.{Bool, true, false, cond, _&&_, _||_, not, false≢true}
+use mathlib.Core.Bool.{Bool, true, false, cond, _&&_, not}
 use mathlib.Core.List.{List, [], _∷_, _++_, map, flatMap, List·Memᴰ, List·Memᴰ·head, List·Memᴰ·tail}
 use mathlib.Core.Option.{Option, none, some}
 use Prim.Native.Nat.{ℕ, _+_, _≤_, _<_}
@@ -9,9 +9,10 @@ use lib.Dec.{eqb, leb}
 use lib.ListN.{length}
 use borrow.Author.Tests.{eqb-true, eq-eqb, ne-eqb, leb-true}
 use Rattle.records.specs.Stages.{every, pairs}
-use Rattle.records.specs.Select.{any, count}
+use Rattle.records.specs.Select.{count}
 use Rattle.records.proofs.Tests.{both-left, both-right, every-map}
-use Rattle.cut.proofs.Counts.{count-append, count-keep, count-none, count-any, any-count, count-most}
+use Rattle.records.proofs.Lists.{any-mem}
+use Rattle.records.proofs.Counts.{count-append, count-keep, count-none, count-any, any-count, count-most, count-split, any-one}
 use Rattle.refs.specs.Drops.{Held}
 use Rattle.plan.specs.Plans.{Write}
 use Rattle.plan.specs.Places.{placesSound}
@@ -20,32 +21,10 @@ use Rattle.change.specs.Rewrites.{Ground, Rewrite, whenHeld, preallocate
 use Rattle.change.specs.Changes.{Change, writesAnew, piecesWanted, wanted, planOf}
 use Rattle.change.proofs.Rounding.{sector-limit}
 use Rattle.change.proofs.Fair.{Fair}
-use Rattle.change.proofs.Each.{any-mem}
 
 -- ---- any list
 
 module _ {A : Type 0} where
-  -- those that pass, with another test or without
-  count-split : (b p : A → Bool) (l : List A) → count (λ (a : A). b a && p a) l + count (λ (a : A). not (b a) && p a) l ≡ count p l
-  unfolding count
-  count-split b p [] = refl
-  count-split b p (a ∷ l) = go (b a) (count-split b p l)
-    where
-      go : (t : Bool) → count (λ a. b a && p a) l + count (λ a. not (b a) && p a) l ≡ count p l
-          → (cond (t && p a) 1 0 + count (λ a. b a && p a) l) + (cond (not t && p a) 1 0 + count (λ a. not (b a) && p a) l) ≡ cond (p a) 1 0 + count p l
-      go true h = omega arith
-      go false h = omega arith
-
-  -- where one passes, which
-  any-one : (p : A → Bool) (l : List A) → any p l ≡ true → (a : A) × List·Memᴰ a l × (p a ≡ true)
-  unfolding any
-  any-one p [] h = absurd (false≢true h)
-  any-one p (a ∷ l) h = go (p a) refl h (any-one p l)
-    where
-      go : (b : Bool) → p a ≡ b → (b || any p l) ≡ true → (any p l ≡ true → (c : A) × List·Memᴰ c l × (p c ≡ true)) → (c : A) × List·Memᴰ c (a ∷ l) × (p c ≡ true)
-      go true e h rec = (a, List·Memᴰ·head refl, e)
-      go false e h rec = let r = rec h in (r .0, List·Memᴰ·tail (r .1), r .2)
-
   length-picked : {B : Type 0} (t : A → B) (l : List A) (m : List B) → length l ≤ length (map t l ++ m)
   length-picked t [] m = omega arith
   length-picked t (a ∷ l) m = let r = length-picked t l m in omega arith

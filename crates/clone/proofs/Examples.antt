@@ -12,7 +12,7 @@ use Rattle.lists.specs.Lists.{wellKept}
 use Rattle.request.specs.Lent.{lentRefusal2}
 use Rattle.request.specs.Answers.{Outcome, plan, nothing, refused}
 use Rattle.cut.specs.Pieces.{cutPieces, insert, insertAll, countedBytes}
-use Rattle.cut.specs.Edits.{Edit, put, delete, edits}
+use Rattle.cut.specs.Edits.{Edit, put, edits}
 use Rattle.cut.specs.Refs.{Ref}
 use Rattle.refs.specs.Drops.{held, dueOf}
 use Rattle.plan.specs.Plans.{Plan, refusedOr}

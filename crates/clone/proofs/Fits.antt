@@ -1,38 +1,37 @@
 -- What a planned clone brings along when it is applied. Assumes nothing.
-use mathlib.Core.Path.{_≡_, refl, ap, _∙_, sym}
-use mathlib.Core.Bool.{Bool, true, false, cond, _&&_, _||_, not}
+use mathlib.Core.Path.{_≡_, refl}
+use mathlib.Core.Bool.{Bool, true, false, cond, _&&_, not}
 use mathlib.Core.List.{List, [], _∷_, _++_, map}
-use Prim.Native.Nat.{ℕ, _+_, _-_, _%_, _<_, _≤_, max, min}
-use native.Mathlib.Omega.{arith}
-use native.Mathlib.Nat.{dvd-add, dvd-sub, mod-eq-zero-of-dvd, dvd-of-mod-eq-zero}
-use native.Mathlib.Decide.{decLe}
+use Prim.Native.Nat.{ℕ, _+_, _-_, _%_, max, min}
 use lib.Dec.{eqb, leb, ltb}
-use borrow.Author.Tests.{eq-eqb, eqb-true, ne-eqb}
-use Rattle.records.specs.Stages.{unless, first, firstOf, stage, every, pairs}
+use borrow.Author.Tests.{eq-eqb, ne-eqb}
+use Rattle.records.specs.Stages.{unless, firstOf, stage, every, pairs}
 use Rattle.records.specs.Select.{keep}
-use Rattle.records.proofs.Tests.{both, both-left, both-right, imply, implied, either-right, first-zero, firstOf-zero, unless-zero, stage-zero, every-both, every-picked}
+use Rattle.records.proofs.Tests.{both, both-left, both-right, imply, first-zero, stage-zero, every-picked}
+use Rattle.records.proofs.Lists.{every-append}
+use Rattle.records.proofs.Wholes.{add-whole, sub-whole, min-whole, max-whole}
 use Rattle.item.specs.Items.{Fields, ranged, hole, end}
 use Rattle.table.specs.declared.Row.{Row}
-use Rattle.table.specs.Rows.{find, withRow}
+use Rattle.table.specs.Rows.{find}
 use Rattle.lists.specs.Lists.{whole}
-use Rattle.lists.proofs.Laws.{whole-facts, kept}
+use Rattle.lists.proofs.Laws.{whole-facts}
 use Rattle.request.specs.declared.Volume.{Volume}
 use Rattle.request.specs.declared.File.{File}
-use Rattle.cut.specs.Pieces.{itemsOf, cutPieces, insertAll}
+use Rattle.cut.specs.Pieces.{itemsOf, cutPieces}
 use Rattle.cut.specs.Refs.{Ref, refOf}
 use Rattle.cut.specs.Edits.{Edit, keyOf}
 use Rattle.cut.proofs.Kept.{whole-cut, every-insertAll}
 use Rattle.cut.proofs.Applied.{edits-rise}
 use Rattle.refs.specs.Drops.{windowSound}
 use Rattle.refs.proofs.Drops.{isFound}
-use Rattle.refs.proofs.Lines.{rowed, with-rowed, more-rowed, releases-rowed, unrefs-rowed, every-append}
+use Rattle.refs.proofs.Lines.{rowed, with-rowed, more-rowed, releases-rowed, unrefs-rowed}
 use Rattle.plan.specs.Plans.{Plan}
 use Rattle.change.proofs.Rounding.{up-whole, sector-limit}
 use Rattle.clone.specs.declared.Span.{Span}
-use Rattle.clone.specs.Clone.{cloneItem, clones, overlaps, sourceRecord, splitRefs, drops, piecesAfter, planOf, spanOf}
+use Rattle.clone.specs.Clone.{cloneItem, clones, overlaps, sourceRecord, splitRefs, drops, piecesAfter}
 use Rattle.clone.proofs.Planned.{Planned, L, srcItems}
 use Rattle.clone.proofs.Items.{pick, Overlap, picked}
-use Rattle.clone.proofs.Laws.{accepted, width′, top, copies, after, after-kept, listKept}
+use Rattle.clone.proofs.Laws.{accepted, width′, copies, after, after-kept, listKept}
 
 -- ---- source records
 
@@ -59,18 +58,6 @@ clones-rowed rs number from to span (f ∷ fs) h =
 -- ---- whole sectors
 
 module _ (s : ℕ) where
-  whole-sum : (a b : ℕ) → a % s ≡ 0 → b % s ≡ 0 → (a + b) % s ≡ 0
-  whole-sum a b p q = mod-eq-zero-of-dvd s (dvd-add s (dvd-of-mod-eq-zero s p) (dvd-of-mod-eq-zero s q))
-
-  whole-less : (a b : ℕ) → a % s ≡ 0 → b % s ≡ 0 → (a - b) % s ≡ 0
-  whole-less a b p q = mod-eq-zero-of-dvd s (dvd-sub s (dvd-of-mod-eq-zero s p) (dvd-of-mod-eq-zero s q))
-
-  whole-max : (a b : ℕ) → a % s ≡ 0 → b % s ≡ 0 → max a b % s ≡ 0
-  whole-max a b p q = elim (decLe a b) [ yes l ↦ (let e : max a b ≡ b = omega arith in rw e q) | no l ↦ (let e : max a b ≡ a = omega arith in rw e p) ]
-
-  whole-min : (a b : ℕ) → a % s ≡ 0 → b % s ≡ 0 → min a b % s ≡ 0
-  whole-min a b p q = elim (decLe a b) [ yes l ↦ (let e : min a b ≡ a = omega arith in rw e p) | no l ↦ (let e : min a b ≡ b = omega arith in rw e q) ]
-
   -- the copy of an item of whole sectors
   copy-whole : (rs : List Row) (number from to span : ℕ) → from % s ≡ 0 → to % s ≡ 0 → span % s ≡ 0 → (f : Fields) → whole s f ≡ true → whole s (cloneItem rs number from to span f) ≡ true
   copy-whole rs number from to span wf wt ws f h =
@@ -78,10 +65,10 @@ module _ (s : ℕ) where
       imply (ranged f) (eqb (copy .key % s) 0 && eqb (copy .length % s) 0)
       (λ r.
       let w = whole-facts s f h r in
-      let m = whole-max (f .key) from (w .0) wf in
+      let m = max-whole s (f .key) from (w .0) wf in
       both (eqb (copy .key % s) 0) (eqb (copy .length % s) 0)
-      (eq-eqb (copy .key % s) 0 (whole-sum to (max (f .key) from - from) wt (whole-less (max (f .key) from) from m wf)))
-      (eq-eqb (copy .length % s) 0 (whole-less (min (end f) (from + span)) (max (f .key) from) (whole-min (end f) (from + span) (whole-sum (f .key) (f .length) (w .0) (w .1)) (whole-sum from span wf ws)) m)))
+      (eq-eqb (copy .key % s) 0 (add-whole s to (max (f .key) from - from) wt (sub-whole s (max (f .key) from) from m wf)))
+      (eq-eqb (copy .length % s) 0 (sub-whole s (min (end f) (from + span)) (max (f .key) from) (min-whole s (end f) (from + span) (add-whole s (f .key) (f .length) (w .0) (w .1)) (add-whole s from span wf ws)) m)))
 
 module _ (v : Volume) (dst src : File) (own : Bool) (span : Span) (before : List Fields) (shared : List ℕ) (source : List Fields) (rs : List Row) (p : Plan) (h : Planned v dst src own span before shared source rs p) where
   abbrev W : ℕ
@@ -89,7 +76,7 @@ module _ (v : Volume) (dst src : File) (own : Bool) (span : Span) (before : List
 
   width-whole : W % v .sector ≡ 0
   width-whole =
-      whole-less (v .sector) _ (span .from)
+      sub-whole (v .sector) _ (span .from)
       (up-whole (v .sector) (sector-limit (v .sector) (accepted v dst src own span before shared source rs p h .sector) .0) (span .from + L v dst src own span before shared source rs))
       (h .aligned .0)
 
@@ -100,7 +87,7 @@ module _ (v : Volume) (dst src : File) (own : Bool) (span : Span) (before : List
       (every-picked (whole (v .sector)) (pick rs (dst .number) (span .from) (span .to) W) (cloneItem rs (dst .number) (span .from) (span .to) W) (whole (v .sector))
       (λ f u k. copy-whole (v .sector) rs (dst .number) (span .from) (span .to) W (h .aligned .0) (h .aligned .1) width-whole f u)
       (srcItems v dst src own span before shared source rs) (h .lent .«source-sectors»))
-      (whole-cut (v .sector) (span .to) (span .to + W) before (h .aligned .1) (whole-sum (v .sector) (span .to) W (h .aligned .1) width-whole) (accepted v dst src own span before shared source rs p h .sectors))
+      (whole-cut (v .sector) (span .to) (span .to + W) before (h .aligned .1) (add-whole (v .sector) (span .to) W (h .aligned .1) width-whole) (accepted v dst src own span before shared source rs p h .sectors))
 
   -- edits by rising key
   pub rising : pairs (λ (d e : Edit). ltb (keyOf d) (keyOf e)) (p .edits) ≡ true

@@ -1,15 +1,14 @@
 -- The items of a clone: each sound in the destination, inside its range, and apart from the others. Assumes nothing.
-use mathlib.Core.Path.{_≡_, refl, _∙_, sym}
+use mathlib.Core.Path.{_≡_, refl}
 use mathlib.Core.Bool.{Bool, true, false, _&&_, _||_, not}
-use mathlib.Core.List.{List, [], _∷_, map}
+use mathlib.Core.List.{List, [], _∷_}
 use mathlib.Core.Logic.{⊎-elim}
-use Prim.Native.Nat.{ℕ, _+_, _-_, _%_, _<_, _≤_, _^_, min, max}
+use Prim.Native.Nat.{ℕ, _+_, _-_, _<_, _≤_, _^_}
 use native.Mathlib.Omega.{arith}
 use lib.Dec.{eqb, leb, ltb}
 use borrow.Author.Tests.{eqb-false, leb-true, ltb-true, eq-eqb, ne-eqb, le-leb, lt-ltb, not-true}
-use Rattle.records.specs.Stages.{unless, first, firstOf, stage, every, pairs}
-use Rattle.records.specs.Select.{keep}
-use Rattle.records.proofs.Tests.{both, both-left, both-right, either, either-left, either-right, implied, imply, first-zero, unless-zero, stage-zero, every-map, every-both, every-picked, pairs-picked, pairs-both}
+use Rattle.records.specs.Stages.{unless, stage, every, pairs}
+use Rattle.records.proofs.Tests.{both, both-left, both-right, either, either-left, either-right, implied, imply, first-zero, unless-zero, stage-zero, every-picked, pairs-picked, pairs-both}
 use Rattle.item.specs.Items.{Fields, ranged, hole, end}
 use Rattle.table.specs.declared.Row.{Row}
 use Rattle.lists.specs.Lists.{itemSound, rangeSound, rises, apart}

@@ -1,44 +1,36 @@
 -- What a planned clone does: to the list, to mappings, and to references. Assumes nothing.
-use mathlib.Core.Path.{_≡_, refl, ap, ap₂, _∙_, sym}
-use mathlib.Core.Bool.{Bool, true, false, cond, _&&_, _||_, not}
-use mathlib.Core.List.{List, [], _∷_, _++_, map}
-use mathlib.Core.Logic.{_⊎_, inl, inr, ⊎-elim}
-use mathlib.Core.Option.{Option, none, some}
-use Prim.Native.Nat.{ℕ, _+_, _-_, _%_, _<_, _≤_, _^_, max, min}
+use mathlib.Core.Path.{_≡_, refl, _∙_}
+use mathlib.Core.Bool.{Bool, true, false, not}
+use mathlib.Core.List.{List}
+use mathlib.Core.Logic.{_⊎_, inl, inr}
+use mathlib.Core.Option.{Option, some}
+use Prim.Native.Nat.{ℕ, _+_, _-_, _%_, _<_, _≤_, _^_}
 use native.Mathlib.Omega.{arith}
-use lib.Dec.{eqb, leb, ltb}
+use lib.Dec.{leb}
 use lib.ListN.{length}
-use borrow.Author.Tests.{eqb-true, eqb-false, leb-true, ltb-true, eq-eqb, not-true}
-use Rattle.records.specs.Stages.{every, pairs, stage}
-use Rattle.records.specs.Select.{keep, count}
-use Rattle.records.proofs.Tests.{both, both-left, both-right, either, imply, implied, every-map, every-keep}
-use Rattle.item.specs.Items.{Fields, ranged, hole, end}
+use borrow.Author.Tests.{leb-true}
+use Rattle.records.proofs.Tests.{both-left, both-right, every-map}
+use Rattle.item.specs.Items.{Fields, end}
 use Rattle.table.specs.declared.Row.{Row}
 use Rattle.table.specs.declared.Found.the-variants.{At}
-use Rattle.table.specs.Rows.{tableKept, find}
-use Rattle.lists.specs.Lists.{wellKept, itemSound, rises, apart, sharedSound}
 use Rattle.lists.proofs.Laws.{Kept, kept}
 use Rattle.request.specs.declared.Volume.{Volume}
 use Rattle.request.specs.declared.File.{File}
 use Rattle.request.specs.Lent.{sectorSound}
 use Rattle.request.proofs.Stages.{Accepted2, Accepted, sector-is}
-use Rattle.cut.specs.Cuts.{covered, split, touched}
-use Rattle.cut.specs.Mappings.{named, holds, Mapping, mappingIn, mapping}
-use Rattle.cut.specs.Pieces.{Piece, itemsOf, cutPieces, insertAll}
-use Rattle.cut.specs.Refs.{Ref, refOf, refPasses, names, naming}
+use Rattle.cut.specs.Mappings.{holds, Mapping, mapping}
+use Rattle.cut.specs.Pieces.{Piece, itemsOf, cutPieces}
+use Rattle.cut.specs.Refs.{Ref}
 use Rattle.cut.specs.Edits.{edits, itemsAfter}
 use Rattle.cut.proofs.Mappings.{misses, cut-outside, insertAll-misses}
 use Rattle.cut.proofs.Kept.{within, kept-cut, ranged-cut, kept-insertAll, cut-apart}
-use Rattle.cut.proofs.Counts.{count-append, count-map, count-keep, count-where, count-apart, cut-count, passes-pieces, insertAll-counts}
 use Rattle.cut.proofs.Applied.{edits-applied, from-cut as drawn-cut, from-insertAll as drawn-insertAll}
-use Rattle.refs.specs.Drops.{Held, held, dropsRefusal, dropsOf, releases, unrefs}
-use Rattle.refs.proofs.Drops.{held-count, drops-lines, drops-number, line-drops, drops-line}
+use Rattle.refs.specs.Drops.{Held}
 use Rattle.plan.specs.Plans.{Plan}
-use Rattle.change.specs.Rounding.{roundUp}
 use Rattle.clone.specs.declared.Span.{Span}
-use Rattle.clone.specs.Clone.{clones, spanOf, len, width, hi, drops, splitRefs, cloned, piecesAfter, planOf, sourceRecord}
+use Rattle.clone.specs.Clone.{spanOf, cloned, piecesAfter}
 use Rattle.clone.proofs.Planned.{Planned, L, W, srcFile, srcItems}
-use Rattle.clone.proofs.Items.{clones-sound, clones-ranged, clones-within, clones-solid, clones-apart, pick, Overlap, picked}
+use Rattle.clone.proofs.Items.{clones-sound, clones-ranged, clones-within, clones-apart, Overlap}
 
 -- ---- the span
 

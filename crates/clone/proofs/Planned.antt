@@ -1,31 +1,29 @@
 -- What a clone that is planned says of all that it was lent. Assumes nothing.
-use mathlib.Core.Path.{_≡_, refl, _∙_, sym}
-use mathlib.Core.Bool.{Bool, true, false, _&&_, _||_, not}
+use mathlib.Core.Path.{_≡_, refl, sym}
+use mathlib.Core.Bool.{Bool, true, _&&_, _||_, not}
 use mathlib.Core.List.{List, [], _∷_}
 use mathlib.Core.Logic.{⊎-elim, _⊎_, inl, inr}
 use Prim.Native.Nat.{ℕ, _+_, _-_, _%_, _<_, _≤_, _^_}
 use native.Mathlib.Omega.{arith}
 use lib.Dec.{eqb, leb, ltb}
-use borrow.Author.Tests.{eqb-true, eqb-false, leb-true, ltb-true, eq-eqb, ne-eqb, not-true}
-use Rattle.records.specs.Stages.{unless, first, firstOf, stage, every}
-use Rattle.records.specs.Select.{keep}
-use Rattle.records.proofs.Tests.{both, both-left, both-right, either, either-left, either-right, implied, first-zero, firstOf-zero, unless-zero, stage-zero, Zeros}
-use Rattle.item.specs.Items.{Fields, ranged, hole}
+use borrow.Author.Tests.{eqb-true, eqb-false, leb-true, ltb-true, not-true}
+use Rattle.records.specs.Stages.{stage, every}
+use Rattle.records.proofs.Tests.{both, both-left, both-right, either, implied, firstOf-zero, unless-zero, stage-zero, Zeros}
+use Rattle.item.specs.Items.{Fields, ranged}
 use Rattle.table.specs.declared.Row.{Row}
 use Rattle.table.specs.Rows.{oneMoreReference}
 use Rattle.request.specs.declared.Volume.{Volume}
 use Rattle.request.specs.declared.File.{File}
-use Rattle.request.specs.Answers.{Outcome, plan, nothing}
-use Rattle.request.specs.Lent.{lentRefusal2}
+use Rattle.request.specs.Answers.{Outcome, plan}
 use Rattle.request.proofs.Stages.{Accepted2, accepted2}
 use Rattle.lists.proofs.Laws.{ranged-of}
 use Rattle.cut.specs.Refs.{Ref}
 use Rattle.refs.specs.Drops.{dropsRefusal}
-use Rattle.plan.specs.Plans.{Plan, refusedOr}
-use Rattle.plan.specs.Outputs.{Rooms, roomFor}
+use Rattle.plan.specs.Plans.{Plan}
+use Rattle.plan.specs.Outputs.{Rooms}
 use Rattle.plan.proofs.Outcomes.{refusedOr-plan, plan-same, cond-plan}
 use Rattle.clone.specs.declared.Span.{Span}
-use Rattle.clone.specs.Clone.{sourceRefusal, destinationRefusal, destinationRecord, growthRefusal, sourceRecord, sourceFile, sourceItems, len, width, hi, drops, splitRefs, planOf, lentAndSource, cloneRefusal, clone, spanOf, overlaps}
+use Rattle.clone.specs.Clone.{destinationRecord, sourceRecord, sourceFile, sourceItems, len, width, drops, splitRefs, planOf, lentAndSource, cloneRefusal, clone}
 
 -- records that pass 7 and 8 are of kind 1 or 2
 pub destination-ranged : (fs : List Fields) → stage destinationRecord fs ≡ 0 → every ranged fs ≡ true

@@ -1,35 +1,35 @@
 -- What a planned clone does to references. Assumes nothing.
 use mathlib.Core.Path.{_≡_, refl, ap, _∙_, sym}
-use mathlib.Core.Bool.{Bool, true, false, cond, _&&_, _||_, not}
-use mathlib.Core.List.{List, [], _∷_, _++_, map}
-use mathlib.Core.Logic.{_⊎_, inl, inr, ⊎-elim}
-use Prim.Native.Nat.{ℕ, _+_, _<_, _≤_, _^_, max, min}
+use mathlib.Core.Bool.{Bool, true, false, cond, _&&_, not}
+use mathlib.Core.List.{List, map}
+use mathlib.Core.Logic.{_⊎_, ⊎-elim}
+use Prim.Native.Nat.{ℕ, _+_, _<_, _≤_}
 use native.Mathlib.Omega.{arith}
 use lib.Dec.{eqb, leb, ltb}
 use lib.ListN.{length}
-use borrow.Author.Tests.{eqb-true, leb-true, ltb-true, not-true}
-use Rattle.records.specs.Stages.{every, pairs}
+use borrow.Author.Tests.{eqb-true, leb-true, ltb-true}
+use Rattle.records.specs.Stages.{every}
 use Rattle.records.specs.Select.{keep, count}
-use Rattle.records.proofs.Tests.{both, both-left, both-right, every-map, every-both, every-keep}
+use Rattle.records.proofs.Tests.{both-left, both-right, every-both, every-keep}
+use Rattle.records.proofs.Counts.{count-append, count-map, count-keep, count-where, count-apart, count-most}
 use Rattle.item.specs.Items.{Fields, ranged, hole, end}
 use Rattle.table.specs.declared.Row.{Row}
 use Rattle.table.specs.declared.Found.the-variants.{At}
-use Rattle.table.specs.Rows.{tableKept, find}
-use Rattle.lists.specs.Lists.{sharedSound}
+use Rattle.table.specs.Rows.{find}
 use Rattle.request.specs.declared.Volume.{Volume}
 use Rattle.request.specs.declared.File.{File}
 use Rattle.cut.specs.Cuts.{covered, split, touched}
 use Rattle.cut.specs.Mappings.{named}
-use Rattle.cut.specs.Pieces.{Piece, itemsOf, cutPieces, insertAll}
+use Rattle.cut.specs.Pieces.{Piece, itemsOf, cutPieces}
 use Rattle.cut.specs.Refs.{Ref, refOf, refPasses, names, naming}
-use Rattle.cut.proofs.Counts.{count-append, count-map, count-keep, count-most, count-where, count-apart, cut-count, passes-pieces, insertAll-counts}
+use Rattle.cut.proofs.Counts.{cut-count, passes-pieces, insertAll-counts}
 use Rattle.refs.specs.Drops.{Held, held, dropsOf, releases, unrefs}
 use Rattle.refs.proofs.Drops.{held-count, drops-lines, drops-number, line-drops, drops-line, held-unshared}
 use Rattle.plan.specs.Plans.{Plan}
 use Rattle.clone.specs.declared.Span.{Span}
-use Rattle.clone.specs.Clone.{drops, splitRefs, piecesAfter, planOf, cloneItem}
-use Rattle.clone.proofs.Planned.{Planned, W, srcFile, srcItems}
-use Rattle.clone.proofs.Items.{clones-ranged, clones-solid, pick, Overlap, picked, usable, all-usable}
+use Rattle.clone.specs.Clone.{drops, splitRefs, piecesAfter, cloneItem}
+use Rattle.clone.proofs.Planned.{Planned, W, srcItems}
+use Rattle.clone.proofs.Items.{clones-ranged, clones-solid, pick, Overlap, picked}
 use Rattle.clone.proofs.Laws.{accepted, sourceKept, width′, top, copies, after, width-some, top-limit}
 
 -- ---- tests of references on items of kind 1 or 2

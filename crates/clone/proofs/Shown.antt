@@ -2,20 +2,19 @@
 use mathlib.Core.Path.{_≡_, refl, ap, _∙_, sym}
 use mathlib.Core.Bool.{Bool, true, false, cond, _&&_, _||_, not}
 use mathlib.Core.List.{List, [], _∷_, map}
-use mathlib.Core.Option.{Option, none, some}
+use mathlib.Core.Option.{Option, some}
 use Prim.Native.Nat.{ℕ, _+_, _-_, _<_, _≤_, max, min}
 use native.Mathlib.Omega.{arith}
 use lib.Dec.{eqb, leb, ltb}
-use borrow.Author.Tests.{eqb-true, eqb-false, leb-true, ltb-true, le-leb, lt-ltb, ne-eqb}
-use Rattle.records.specs.Stages.{every, pairs}
+use borrow.Author.Tests.{eqb-true, leb-true, ltb-true, le-leb, lt-ltb}
 use Rattle.records.specs.Select.{keep}
-use Rattle.records.proofs.Tests.{both, both-left, both-right, same}
+use Rattle.records.proofs.Tests.{both, both-left, both-right}
 use Rattle.item.specs.Items.{Fields, ranged, hole, end}
 use Rattle.table.specs.declared.Row.{Row}
 use Rattle.request.specs.declared.Volume.{Volume}
 use Rattle.request.specs.declared.File.{File}
 use Rattle.cut.specs.Mappings.{named, holds, Mapping, mappingIn, mapping}
-use Rattle.cut.specs.Pieces.{itemsOf, cutPieces, insertAll}
+use Rattle.cut.specs.Pieces.{itemsOf, cutPieces}
 use Rattle.cut.proofs.Mappings.{cut-inside}
 use Rattle.cut.proofs.Kept.{insertAll-shows}
 use Rattle.plan.specs.Plans.{Plan}
@@ -23,7 +22,7 @@ use Rattle.clone.specs.declared.Span.{Span}
 use Rattle.clone.specs.Clone.{cloneItem, clones, overlaps, piecesAfter, Cloned}
 use Rattle.clone.proofs.Planned.{Planned, srcItems}
 use Rattle.clone.proofs.Items.{pick, clones-apart}
-use Rattle.clone.proofs.Laws.{sourceKept, width′, top, copies, after, width-some, top-limit, mapping-outside}
+use Rattle.clone.proofs.Laws.{sourceKept, width′, copies, after, width-some, top-limit, mapping-outside}
 
 -- ---- one item and its copy
 

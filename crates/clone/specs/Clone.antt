@@ -1,7 +1,7 @@
 -- A clone (document 01, "A clone"; `clone_range`, `clone_span` and `clone_item`, clone.rs).
-use mathlib.Core.Bool.{Bool, true, false, cond, _&&_, _||_, not}
+use mathlib.Core.Bool.{Bool, false, cond, _&&_, _||_, not}
 use mathlib.Core.List.{List, [], _∷_, _++_, map}
-use mathlib.Core.Option.{Option, none, some}
+use mathlib.Core.Option.{Option}
 use mathlib.Core.Path.{_≡_}
 use Prim.Native.Nat.{ℕ, _+_, _-_, _%_, _≤_, _<_, _^_, min, max}
 use lib.Dec.{eqb, leb, ltb}

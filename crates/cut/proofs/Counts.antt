@@ -1,118 +1,24 @@
 -- How many items name an extent, and at which reference offset: what a cut, a new item and a join make of these numbers.
 -- Assumes nothing.
 use mathlib.Core.Path.{_≡_, refl, ap, _∙_, sym}
-use mathlib.Core.Bool.{Bool, true, false, cond, _&&_, _||_, not, false≢true}
+use mathlib.Core.Bool.{Bool, true, false, cond, _&&_, not, false≢true}
 use mathlib.Core.List.{List, [], _∷_, _++_, map, flatMap, tail}
 use Prim.Native.Nat.{ℕ, _+_, _-_, _^_, _<_, _≤_, min, max}
 use native.Mathlib.Omega.{arith}
 use lib.Dec.{eqb, leb, ltb}
-use lib.ListN.{length}
-use borrow.Author.Tests.{ltb-true, ltb-false, eqb-true, not-true, lt-ltb, le-leb, lt-leb, eq-eqb}
-use Rattle.records.specs.Select.{only, keep, any, count}
+use borrow.Author.Tests.{ltb-true, ltb-false, not-true, lt-ltb, le-leb, lt-leb, eq-eqb}
+use Rattle.records.specs.Select.{only, count}
 use Rattle.records.specs.Stages.{every, pairs}
 use Rattle.records.proofs.Tests.{both, both-left, both-right, same, every-map}
+use Rattle.records.proofs.Counts.{count-append, count-map, count-most}
 use Rattle.item.specs.Items.{Fields, ranged, hole, end, reference, joined}
 use Rattle.lists.specs.Lists.{rises}
 use Rattle.cut.specs.Cuts.{front, back, cut, touched, covered, split}
 use Rattle.cut.specs.Pieces.{Piece, made, kept, itemsOf, cutPieces, insert, insertAll}
-use Rattle.cut.specs.Joins.{plain, joinable, joinNext, past, joinAround, joinAll}
+use Rattle.cut.specs.Joins.{joinable, joinNext, past, joinAround, joinAll}
 use Rattle.cut.specs.Mappings.{named}
 use Rattle.cut.proofs.Mappings.{Joint, joint}
 use Rattle.cut.specs.Refs.{Ref, refOf, sameRef, names, refers, naming, referring, refPasses}
-
--- ---- counts in any list
-
-module _ {A : Type 0} where
-  -- of two lists
-  pub count-append : (p : A → Bool) (l m : List A) → count p (l ++ m) ≡ count p l + count p m
-  unfolding count
-  count-append p [] m = omega arith
-  count-append p (a ∷ l) m = omega (arith, count-append p l m)
-
-  -- of a list changed one by one
-  pub count-map : {B : Type 0} (p : A → Bool) (g : B → A) (l : List B) → count p (map g l) ≡ count (λ (b : B). p (g b)) l
-  unfolding count
-  count-map p g [] = refl
-  count-map p g (b ∷ l) = ap (λ (n : ℕ). cond (p (g b)) 1 0 + n) (count-map p g l)
-
-  -- those kept by q that pass p
-  pub count-keep : (p q : A → Bool) (l : List A) → count p (keep q l) ≡ count (λ (a : A). q a && p a) l
-  unfolding count keep
-  count-keep p q [] = refl
-  count-keep p q (a ∷ l) = go (q a) (count-keep p q l)
-    where
-      go : (b : Bool) → count p (keep q l) ≡ count (λ (a : A). q a && p a) l → count p (cond b (a ∷ keep q l) (keep q l)) ≡ cond (b && p a) 1 0 + count (λ (a : A). q a && p a) l
-      go true h = omega arith
-      go false h = omega arith
-
-  -- at most all
-  pub count-length : (p : A → Bool) (l : List A) → count p l ≤ length l
-  unfolding count
-  count-length p [] = omega arith
-  count-length p (a ∷ l) = go (p a) (count-length p l)
-    where
-      go : (b : Bool) → count p l ≤ length l → cond b 1 0 + count p l ≤ length (a ∷ l)
-      go true h = omega arith
-      go false h = omega arith
-
-  -- none passes
-  pub count-none : (p : A → Bool) (l : List A) → every (λ (a : A). not (p a)) l ≡ true → count p l ≡ 0
-  unfolding count every
-  count-none p [] h = refl
-  count-none p (a ∷ l) h =
-      let e : p a ≡ false = not-true (p a) (both-left (not (p a)) (every (λ (a : A). not (p a)) l) h) in
-      rw e (omega (arith, count-none p l (both-right (not (p a)) (every (λ (a : A). not (p a)) l) h)))
-
-  -- two tests that are equal everywhere
-  pub count-same : (p q : A → Bool) → ((a : A) → p a ≡ q a) → (l : List A) → count p l ≡ count q l
-  unfolding count
-  count-same p q h [] = refl
-  count-same p q h (a ∷ l) = rw (h a) (ap (λ (n : ℕ). cond (q a) 1 0 + n) (count-same p q h l))
-
-  -- two tests that are equal where another holds
-  pub count-where : (u p q : A → Bool) → ((a : A) → u a ≡ true → p a ≡ q a) → (l : List A) → every u l ≡ true → count p l ≡ count q l
-  unfolding count every
-  count-where u p q f [] h = refl
-  count-where u p q f (a ∷ l) h = rw (f a (both-left (u a) (every u l) h)) (ap (λ (n : ℕ). cond (q a) 1 0 + n) (count-where u p q f l (both-right (u a) (every u l) h)))
-
-  -- two tests of which no more than one holds, and a third with either
-  pub count-apart : (u p q r : A → Bool) → ((a : A) → u a ≡ true → cond (p a) 1 0 + cond (q a) 1 0 ≤ cond (r a) 1 0) → (l : List A) → every u l ≡ true → count p l + count q l ≤ count r l
-  unfolding count every
-  count-apart u p q r f [] h = omega arith
-  count-apart u p q r f (a ∷ l) h =
-      let x = f a (both-left (u a) (every u l) h) in
-      let y = count-apart u p q r f l (both-right (u a) (every u l) h) in
-      omega arith
-
-  -- some pass: one does
-  pub count-any : (p : A → Bool) (l : List A) → 0 < count p l → any p l ≡ true
-  unfolding count any
-  count-any p [] h = absurd (omega arith)
-  count-any p (a ∷ l) h = go (p a) (count-any p l) h
-    where
-      go : (b : Bool) → (0 < count p l → any p l ≡ true) → 0 < cond b 1 0 + count p l → (b || any p l) ≡ true
-      go true f h = refl
-      go false f h = f (omega arith)
-
-  -- one passes: some do
-  pub any-count : (p : A → Bool) (l : List A) → any p l ≡ true → 0 < count p l
-  unfolding count any
-  any-count p [] h = absurd (false≢true h)
-  any-count p (a ∷ l) h = go (p a) (any-count p l) h
-    where
-      go : (b : Bool) → (any p l ≡ true → 0 < count p l) → (b || any p l) ≡ true → 0 < cond b 1 0 + count p l
-      go true f h = omega arith
-      go false f h = omega (arith, f h)
-
-  -- what implies a test: at most as many pass
-  pub count-most : (p q : A → Bool) → ((a : A) → p a ≡ true → q a ≡ true) → (l : List A) → count p l ≤ count q l
-  unfolding count
-  count-most p q h [] = omega arith
-  count-most p q h (a ∷ l) = go (p a) refl (count-most p q h l)
-    where
-      go : (b : Bool) → p a ≡ b → count p l ≤ count q l → cond b 1 0 + count p l ≤ cond (q a) 1 0 + count q l
-      go true e k = rw (h a e) (omega arith)
-      go false e k = omega arith
 
 -- ---- a test that the pieces of a cut item pass as the item does, and that no hole passes
 

@@ -1,6 +1,6 @@
 -- Cuts, joins and edits, computed.
 use mathlib.Core.Path.{_≡_, refl}
-use mathlib.Core.Bool.{Bool, true, false}
+use mathlib.Core.Bool.{Bool}
 use mathlib.Core.List.{List, [], _∷_, map, flatMap}
 use mathlib.Core.Option.{Option, none, some}
 use Prim.Native.Nat.{ℕ}
@@ -8,7 +8,7 @@ use Rattle.records.specs.Select.{keep, any}
 use Rattle.item.specs.Items.{Fields, regularItem, windowed, joined}
 use Rattle.cut.specs.Cuts.{cutRange, covered, split}
 use Rattle.cut.specs.Mappings.{Mapping, mapping}
-use Rattle.cut.specs.Pieces.{Piece, made, kept, itemsOf, cutPieces, insert, insertAll, countedBytes}
+use Rattle.cut.specs.Pieces.{Piece, made, kept, cutPieces, insert, insertAll, countedBytes}
 use Rattle.cut.specs.Joins.{joinAround, joinAll}
 use Rattle.cut.specs.Edits.{Edit, put, delete, edits, itemsAfter}
 

@@ -5,11 +5,12 @@ use mathlib.Core.List.{List, [], _∷_, _++_, flatMap}
 use mathlib.Core.Logic.{_⊎_, inl, inr, ⊎-elim}
 use Prim.Native.Nat.{ℕ, _+_, _-_, _%_, _^_, _≤_, _<_, min, max}
 use native.Mathlib.Omega.{arith}
-use native.Mathlib.Nat.{dvd-add, dvd-sub, mod-eq-zero-of-dvd, dvd-of-mod-eq-zero}
 use lib.Dec.{eqb, leb, ltb}
 use borrow.Author.Tests.{eq-eqb, leb-true, ltb-true, ltb-false, le-leb, lt-ltb}
 use Rattle.records.specs.Stages.{every, pairs}
 use Rattle.records.proofs.Tests.{both, both-left, both-right, either, either-left, either-right, implied, imply, every-map, every-both}
+use Rattle.records.proofs.Lists.{every-true}
+use Rattle.records.proofs.Wholes.{add-whole, sub-whole}
 use Rattle.item.specs.Items.{Fields, ranged, hole, end, windowed, joined}
 use Rattle.lists.specs.Lists.{itemSound, rangeSound, rises, apart, whole}
 use Rattle.lists.proofs.Order.{Ranged, item-ranged}
@@ -202,13 +203,6 @@ module _
 pub ranged-cut : (lo hi : ℕ) (fs : List Fields) → every ranged fs ≡ true → every ranged (itemsOf (cutPieces lo hi fs)) ≡ true
 ranged-cut lo hi fs e = every-cut lo hi ranged ranged (λ f h s. h) (λ f h p q. h) (λ f h p q. h) fs e
 
--- sums and differences of whole sectors
-add-whole : (s a b : ℕ) → a % s ≡ 0 → b % s ≡ 0 → (a + b) % s ≡ 0
-add-whole s a b p q = mod-eq-zero-of-dvd s (dvd-add s (dvd-of-mod-eq-zero s p) (dvd-of-mod-eq-zero s q))
-
-sub-whole : (s a b : ℕ) → a % s ≡ 0 → b % s ≡ 0 → (a - b) % s ≡ 0
-sub-whole s a b p q = mod-eq-zero-of-dvd s (dvd-sub s (dvd-of-mod-eq-zero s p) (dvd-of-mod-eq-zero s q))
-
 whole-told : (s : ℕ) (f : Fields) → (ranged f ≡ true → (f .key % s ≡ 0) × (f .length % s ≡ 0)) → whole s f ≡ true
 whole-told s f h =
     imply (ranged f) (eqb (f .key % s) 0 && eqb (f .length % s) 0)
@@ -239,11 +233,6 @@ clear lo hi f = leb (end f) lo || leb hi (f .key)
 is-clear : (lo hi : ℕ) (f : Fields) → (end f ≤ lo) ⊎ (hi ≤ f .key) → clear lo hi f ≡ true
 is-clear lo hi f (inl h) = either-left (leb (end f) lo) (leb hi (f .key)) (le-leb (end f) lo h)
 is-clear lo hi f (inr h) = either-right (leb (end f) lo) (leb hi (f .key)) (le-leb hi (f .key) h)
-
-every-true : (fs : List Fields) → every (λ (f : Fields). true) fs ≡ true
-unfolding every
-every-true [] = refl
-every-true (f ∷ fs) = every-true fs
 
 -- what a cut leaves is clear of the range
 pub cut-clear : (lo hi : ℕ) (fs : List Fields) → lo < hi → every (clear lo hi) (itemsOf (cutPieces lo hi fs)) ≡ true

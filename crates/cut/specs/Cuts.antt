@@ -1,10 +1,10 @@
 -- `cut_range` (clone.rs): taking [lo, hi) out of a file's items (document 01, "The leaves").
 use mathlib.Core.Bool.{Bool, cond, _&&_, not}
-use mathlib.Core.List.{List, _++_, map, flatMap}
+use mathlib.Core.List.{List, _++_, flatMap}
 use Prim.Native.Nat.{ℕ, _+_, _-_, min, max}
 use lib.Dec.{leb, ltb}
-use Rattle.records.specs.Select.{only, keep}
-use Rattle.item.specs.Items.{Fields, hole, end, reference, windowed}
+use Rattle.records.specs.Select.{only}
+use Rattle.item.specs.Items.{Fields, hole, end, windowed}
 
 -- what of an item lies before lo: "a front keeps its key and position"
 abbrev pub front : ℕ → Fields → Fields

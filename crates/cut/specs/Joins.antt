@@ -1,8 +1,8 @@
 -- `joinable` and `join_written_sectors` (fallocate.rs).
-use mathlib.Core.Bool.{Bool, true, false, cond, _&&_}
+use mathlib.Core.Bool.{Bool, true, cond, _&&_}
 use mathlib.Core.List.{List, [], _∷_, tail}
 use Prim.Native.Nat.{ℕ}
-use lib.Dec.{eqb, leb, ltb}
+use lib.Dec.{eqb, ltb}
 use Rattle.item.specs.Items.{Fields, end, reference, joined}
 use Rattle.cut.specs.Pieces.{Piece, made}
 

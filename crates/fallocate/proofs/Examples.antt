@@ -2,7 +2,7 @@
 use mathlib.Core.Path.{_≡_, refl}
 use mathlib.Core.Bool.{Bool, true, false}
 use mathlib.Core.List.{List, [], _∷_, map, flatMap}
-use Prim.Native.Nat.{ℕ, _-_, _^_}
+use Prim.Native.Nat.{ℕ}
 use Rattle.records.specs.Stages.{first, firstOf, stage, every, pairs, neighbours}
 use Rattle.records.specs.Select.{keep, any, count}
 use Rattle.item.specs.Items.{Fields, regularItem, ofKind, changed as withNumbers}
@@ -10,11 +10,11 @@ use Rattle.table.specs.declared.Row.{Row}
 use Rattle.table.specs.Rows.{tableKept, findFrom}
 use Rattle.lists.specs.Lists.{wellKept}
 use Rattle.request.specs.Lent.{lentRefusal}
-use Rattle.request.specs.Answers.{Outcome, plan, nothing, refused}
+use Rattle.request.specs.Answers.{Outcome, plan, refused}
 use Rattle.cut.specs.Mappings.{holder}
 use Rattle.cut.specs.Pieces.{cutPieces, insert, insertAll, countedBytes}
 use Rattle.cut.specs.Joins.{joinAround, joinAll}
-use Rattle.cut.specs.Edits.{Edit, put, delete, edits}
+use Rattle.cut.specs.Edits.{Edit, put, edits}
 use Rattle.refs.specs.Compared.{insertRef, sorted, without, minus}
 use Rattle.refs.specs.Drops.{held, dueOf}
 use Rattle.plan.specs.Plans.{Plan, Add, Write, refusedOr}

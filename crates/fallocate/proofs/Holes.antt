@@ -10,13 +10,15 @@ use borrow.Author.Tests.{not-true}
 use Rattle.records.specs.Select.{any}
 use Rattle.records.specs.Stages.{every, pairs}
 use Rattle.records.proofs.Tests.{both, both-left, both-right, same, every-map}
+use Rattle.records.proofs.Lists.{every-true}
+use Rattle.records.proofs.Wholes.{sub-whole}
 use Rattle.item.specs.Items.{Fields}
 use Rattle.change.specs.Rounding.{roundDown}
 use Rattle.change.specs.Preallocs.{Span}
 use Rattle.change.proofs.Fair.{holeFree, holesRise}
 use Rattle.change.proofs.Rounding.{down-below, down-whole, up-above, up-whole}
 use Rattle.fallocate.specs.Fallocate.{endRewritten, less, lessItems, from, to, endSector, endStop, holesToAllocate, sumOf}
-use Rattle.fallocate.proofs.Less.{within, within-true, within-facts, without-true, without-facts, inside, over, or-false, inside-less, inside-lessItems, Rising, rising-less, rising-lessItems, between, rising-between, rising-pairs, rising-sum, every-true, clearOf, clear-told, less-clear, lessItems-free, free-less, sub-whole, wholes-told, wholeSpan, wholeItem, whole-less, whole-lessItems}
+use Rattle.fallocate.proofs.Less.{within, within-true, within-facts, without-true, without-facts, inside, over, or-false, inside-less, inside-lessItems, Rising, rising-less, rising-lessItems, between, rising-between, rising-pairs, rising-sum, clearOf, clear-told, less-clear, lessItems-free, free-less, wholes-told, wholeSpan, wholeItem, whole-less, whole-lessItems}
 
 module _ (size sector offset stop : ℕ) where
   abbrev lo : ℕ

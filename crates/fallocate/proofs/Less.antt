@@ -5,13 +5,14 @@ use mathlib.Core.List.{List, [], _∷_, _++_, flatMap}
 use mathlib.Core.Logic.{_⊎_, inl, inr, ⊎-elim}
 use Prim.Native.Nat.{ℕ, _+_, _-_, _%_, _≤_, _<_, min, max}
 use native.Mathlib.Omega.{arith}
-use native.Mathlib.Decide.{decLe, decLt}
-use native.Mathlib.Nat.{dvd-add, dvd-sub, mod-eq-zero-of-dvd, dvd-of-mod-eq-zero}
+use native.Mathlib.Decide.{decLt}
 use lib.Dec.{eqb, leb, ltb}
 use borrow.Author.Tests.{eqb-true, eq-eqb, leb-true, ltb-true, le-leb, lt-ltb, not-true}
 use Rattle.records.specs.Select.{only, any}
 use Rattle.records.specs.Stages.{every, pairs}
 use Rattle.records.proofs.Tests.{both, both-left, both-right, either, either-left, either-right, same, every-map, every-both}
+use Rattle.records.proofs.Lists.{every-true}
+use Rattle.records.proofs.Wholes.{add-whole, sub-whole, min-whole, max-whole}
 use Rattle.item.specs.Items.{Fields, end}
 use Rattle.cut.proofs.Kept.{clear}
 use Rattle.change.specs.Preallocs.{Span}
@@ -273,11 +274,6 @@ unfolding lessItems every
 every-lessItems p q law [] k ss h = h
 every-lessItems p q law (f ∷ fs) k ss h = every-lessItems p q law fs (both-right (q f) (every q fs) k) (flatMap (less (f .key) (end f)) ss) (law f (both-left (q f) (every q fs) k) ss h)
 
-pub every-true : {A : Type 0} (l : List A) → every (λ (a : A). true) l ≡ true
-unfolding every
-every-true [] = refl
-every-true (a ∷ l) = every-true l
-
 -- ---- clear of what is taken out
 
 -- a stretch has no byte of [a, b)
@@ -323,26 +319,6 @@ free-less (f ∷ fs) a b ss h =
 -- ---- whole sectors
 
 module _ (n : ℕ) where
-  add-whole : (a b : ℕ) → a % n ≡ 0 → b % n ≡ 0 → (a + b) % n ≡ 0
-  add-whole a b p q = mod-eq-zero-of-dvd n (dvd-add n (dvd-of-mod-eq-zero n p) (dvd-of-mod-eq-zero n q))
-
-  pub sub-whole : (a b : ℕ) → a % n ≡ 0 → b % n ≡ 0 → (a - b) % n ≡ 0
-  sub-whole a b p q = mod-eq-zero-of-dvd n (dvd-sub n (dvd-of-mod-eq-zero n p) (dvd-of-mod-eq-zero n q))
-
-  min-whole : (a b : ℕ) → a % n ≡ 0 → b % n ≡ 0 → min a b % n ≡ 0
-  min-whole a b p q =
-      elim (decLe a b) [
-        | yes l ↦ let e : min a b ≡ a = omega arith in rw e p
-        | no l ↦ let e : min a b ≡ b = omega arith in rw e q
-      ]
-
-  max-whole : (a b : ℕ) → a % n ≡ 0 → b % n ≡ 0 → max a b % n ≡ 0
-  max-whole a b p q =
-      elim (decLe a b) [
-        | yes l ↦ let e : max a b ≡ b = omega arith in rw e q
-        | no l ↦ let e : max a b ≡ a = omega arith in rw e p
-      ]
-
   -- two numbers of whole sectors
   abbrev pub wholes : ℕ → ℕ → Bool
   wholes a b = eqb (a % n) 0 && eqb (b % n) 0
@@ -366,13 +342,13 @@ module _ (n : ℕ) where
       every-less a b wholeSpan wholeSpan
       (λ s e l.
       let k = wholes-facts (s .start) (s .length) e in
-      wholes-told _ _ (k .0) (sub-whole _ _ (min-whole _ _ (add-whole _ _ (k .0) (k .1)) p) (k .0)))
+      wholes-told _ _ (k .0) (sub-whole n _ _ (min-whole n _ _ (add-whole n _ _ (k .0) (k .1)) p) (k .0)))
       (λ s e l.
       let k = wholes-facts (s .start) (s .length) e in
-      let m = max-whole (s .start) b (k .0) q in
-      wholes-told _ _ m (sub-whole _ _ (add-whole _ _ (k .0) (k .1)) m))
+      let m = max-whole n (s .start) b (k .0) q in
+      wholes-told _ _ m (sub-whole n _ _ (add-whole n _ _ (k .0) (k .1)) m))
 
   pub whole-lessItems : (fs : List Fields) → every wholeItem fs ≡ true → (ss : List Span) → every wholeSpan ss ≡ true → every wholeSpan (lessItems fs ss) ≡ true
   whole-lessItems =
       every-lessItems wholeSpan wholeItem
-      (λ f h ss. let k = wholes-facts (f .key) (f .length) h in whole-less (f .key) (end f) (k .0) (add-whole _ _ (k .0) (k .1)) ss)
+      (λ f h ss. let k = wholes-facts (f .key) (f .length) h in whole-less (f .key) (end f) (k .0) (add-whole n _ _ (k .0) (k .1)) ss)

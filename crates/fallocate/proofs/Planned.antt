@@ -7,13 +7,12 @@ use Prim.Native.Nat.{ℕ, _+_, _<_, _≤_, _^_}
 use native.Mathlib.Omega.{arith}
 use lib.Dec.{eqb, leb, ltb}
 use lib.ListN.{length}
-use borrow.Author.Tests.{eqb-true, eqb-false, leb-true, ltb-true, lt-ltb, not-true}
+use borrow.Author.Tests.{eqb-false, leb-true, ltb-true, lt-ltb, not-true}
 use Rattle.records.specs.Stages.{unless, first, stage, every}
 use Rattle.records.specs.Select.{any}
 use Rattle.records.proofs.Tests.{both, both-left, both-right, either, either-left, either-right, implied, first-zero, firstOf-zero, unless-zero, stage-zero, every-both}
 use Rattle.item.specs.Items.{Fields, ranged, hole, end}
 use Rattle.lists.specs.Lists.{recordRefusal}
-use Rattle.lists.proofs.Laws.{kept, plain}
 use Rattle.table.specs.declared.Row.{Row}
 use Rattle.request.specs.declared.Volume.{Volume}
 use Rattle.request.specs.declared.File.{File}
@@ -21,18 +20,16 @@ use Rattle.request.specs.declared.Range.{Range}
 use Rattle.request.specs.Answers.{plan}
 use Rattle.request.proofs.Stages.{Accepted, accepted}
 use Rattle.cut.specs.Mappings.{holds}
-use Rattle.refs.specs.Drops.{held}
-use Rattle.refs.proofs.Drops.{held-items}
 use Rattle.plan.specs.Plans.{Plan}
 use Rattle.plan.specs.Places.{placesSound}
 use Rattle.plan.specs.Outputs.{Rooms}
 use Rattle.plan.proofs.Outcomes.{refusedOr-plan, plan-same}
 use Rattle.change.specs.Preallocs.{pieceLimit}
-use Rattle.change.specs.Rewrites.{Ground, itemsHeld}
+use Rattle.change.specs.Rewrites.{Ground}
 use Rattle.change.specs.Changes.{Change, wanted, planOf, changeRefusal, changed}
 use Rattle.change.proofs.Fair.{Sound}
 use Rattle.punch.specs.Punch.{rangeRefusal, groundOf}
-use Rattle.punch.proofs.Planned.{records-ranged, ground-items, ground-sound}
+use Rattle.punch.proofs.Planned.{records-ranged}
 use Rattle.fallocate.specs.Fallocate.{from, to, endSector, endStop, itemRefusal, holesToAllocate, sumOf, fallocateChange, fallocateRefusal, fallocate}
 use Rattle.fallocate.proofs.Less.{inside, over, within, within-facts, without-facts}
 use Rattle.fallocate.proofs.Holes.{hole-told}

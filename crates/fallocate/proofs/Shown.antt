@@ -1,7 +1,7 @@
 -- What each offset maps to after a planned fallocate. Assumes nothing.
 use mathlib.Core.Path.{_≡_, refl, ap, _∙_, sym}
-use mathlib.Core.Bool.{Bool, true, false, cond, _&&_, _||_, not, false≢true}
-use mathlib.Core.List.{List, [], _∷_}
+use mathlib.Core.Bool.{Bool, true, false, cond, not, false≢true}
+use mathlib.Core.List.{List}
 use mathlib.Core.Logic.{_⊎_, inl, inr, ⊎-elim}
 use mathlib.Core.Option.{Option, none, some}
 use Prim.Native.Nat.{ℕ, _+_, _%_, _≤_, _<_}
@@ -9,15 +9,13 @@ use native.Mathlib.Omega.{arith}
 use native.Mathlib.Decide.{decLt}
 use borrow.Author.Tests.{not-true}
 use Rattle.records.specs.Select.{only, any}
-use Rattle.records.specs.Stages.{every}
 use Rattle.records.proofs.Tests.{both-right, either-left}
+use Rattle.records.proofs.Lists.{any-some, none-every}
 use Rattle.item.specs.Items.{Fields}
 use Rattle.table.specs.declared.Row.{Row}
 use Rattle.request.specs.declared.Volume.{Volume}
 use Rattle.request.specs.declared.File.{File}
 use Rattle.request.specs.declared.Range.{Range}
-use Rattle.request.specs.Lent.{sectorSound}
-use Rattle.request.proofs.Stages.{sector-is}
 use Rattle.cut.specs.Mappings.{named, holds, Mapping, mappingIn, mapping}
 use Rattle.cut.specs.Pieces.{itemsOf}
 use Rattle.plan.specs.Plans.{Plan}
@@ -27,7 +25,6 @@ use Rattle.change.specs.Rewrites.{Ground}
 use Rattle.change.specs.Changes.{Change, piecesAfter}
 use Rattle.change.proofs.Preallocs.{limit-whole}
 use Rattle.change.proofs.Fair.{Fair}
-use Rattle.change.proofs.Each.{any-some}
 use Rattle.change.proofs.Shown.{onSector, shown-some, shown-held, unasked, mapping-outside, mapping-hole, mapping-sector}
 use Rattle.punch.proofs.Planned.{ground-items}
 use Rattle.fallocate.specs.Fallocate.{endRewritten, from, to, endSector, endStop, holesToAllocate, Allocated}
@@ -35,16 +32,6 @@ use Rattle.fallocate.proofs.Less.{inside, has, over, within, within-fac
 use Rattle.fallocate.proofs.Holes.{InHole, hole-facts}
 use Rattle.fallocate.proofs.Planned.{ground, change, Planned, planned-filled}
 use Rattle.fallocate.proofs.Fair.{planned-fair}
-
--- where none passes, each fails
-none-every : {A : Type 0} (p : A → Bool) (l : List A) → any p l ≡ false → every (λ (a : A). not (p a)) l ≡ true
-unfolding any every
-none-every p [] h = refl
-none-every p (a ∷ l) h = go (p a) h (none-every p l)
-  where
-    go : (b : Bool) → (b || any p l) ≡ false → (any p l ≡ false → every (λ a. not (p a)) l ≡ true) → (not b && every (λ a. not (p a)) l) ≡ true
-    go true h s = absurd (false≢true (sym h))
-    go false h s = s h
 
 -- an item that holds an offset is over it
 held-over : (o : ℕ) (fs : List Fields) → any (holds o) fs ≡ true → any (over o) fs ≡ false → ⊥

@@ -1,5 +1,5 @@
 -- A fallocate (document 01, "A fallocate"; `fallocate` and `holes_to_allocate`, fallocate.rs).
-use mathlib.Core.Bool.{Bool, true, false, cond, _&&_, not}
+use mathlib.Core.Bool.{Bool, cond, _&&_, not}
 use mathlib.Core.List.{List, [], _∷_, _++_, flatMap}
 use mathlib.Core.Option.{Option, none, some}
 use mathlib.Core.Path.{_≡_}

@@ -1,14 +1,13 @@
 -- What punch and fallocate have in common: every plan of `change_range` is lawful, but for what it maps, and fit to be
 -- applied. Assumes nothing.
 use mathlib.Core.Path.{_≡_, refl, ap, _∙_, sym}
-use mathlib.Core.Bool.{Bool, true, false, _&&_, not, false≢true}
-use mathlib.Core.List.{List, [], _∷_, _++_, List·Memᴰ}
-use Prim.Native.Nat.{ℕ, _+_, _%_, _<_, _≤_}
+use mathlib.Core.Bool.{Bool, true, false, not, false≢true}
+use mathlib.Core.List.{List, _++_, List·Memᴰ}
+use Prim.Native.Nat.{ℕ, _+_, _%_, _<_}
 use native.Mathlib.Omega.{arith}
-use lib.Dec.{eqb}
-use Rattle.records.specs.Stages.{every}
 use Rattle.records.specs.Select.{count}
-use Rattle.item.specs.Items.{Fields, ranged}
+use Rattle.records.proofs.Lists.{every-mem, at-every}
+use Rattle.item.specs.Items.{Fields}
 use Rattle.table.specs.declared.Row.{Row}
 use Rattle.table.specs.Rows.{find}
 use Rattle.table.specs.declared.Found.{Found}
@@ -19,30 +18,28 @@ use Rattle.cut.specs.Mappings.{mapping}
 use Rattle.cut.specs.Pieces.{Piece, itemsOf}
 use Rattle.cut.specs.Refs.{Ref, refPasses, naming}
 use Rattle.cut.specs.Edits.{itemsAfter}
-use Rattle.refs.specs.Drops.{held}
 use Rattle.refs.proofs.Drops.{isFound, held-unshared}
 use Rattle.refs.proofs.Lines.{rowed-stage}
 use Rattle.plan.specs.Plans.{Plan, Add}
 use Rattle.plan.specs.Places.{placesSound}
 use Rattle.change.specs.Preallocs.{pieceLimit}
-use Rattle.change.specs.Rewrites.{Ground, itemsHeld}
+use Rattle.change.specs.Rewrites.{Ground}
 use Rattle.change.specs.Changes.{Change, before, piecesAfter, changeRefusal, wanted, planOf}
 use Rattle.change.proofs.Preallocs.{limit-whole}
 use Rattle.change.proofs.Fair.{Fair}
 use Rattle.change.proofs.Steps.{kept-after, whole-after, edits-give}
-use Rattle.change.proofs.Each.{every-mem, at-every}
 use Rattle.change.proofs.Balance.{balance, adds-fresh, shares-named}
 use Rattle.change.proofs.Released.{released-only, released-always}
 use Rattle.change.proofs.Fits.{lines-rowed, rising, adds-some}
 use Rattle.punch.specs.Punch.{groundOf}
 use Rattle.punch.proofs.Planned.{ground-items}
-use Rattle.apply.specs.Apply.{linesAt, rowMissing}
+use Rattle.apply.specs.Apply.{rowMissing}
 use Rattle.apply.proofs.Adds.{rows-sound, rows-clear, rows-apart, each-sound, two-apart}
 use Rattle.apply.proofs.Refusals.{Fit}
-use Rattle.history.specs.States.{State, listOf, withList, total, TrueTable}
+use Rattle.history.specs.States.{State, listOf, TrueTable}
 use Rattle.history.specs.Calls.{Call, Lent, lentOf, volumeOf, fileOf, changes}
-use Rattle.history.specs.Claims.{Outside, addRef, lineAt, unmarked}
-use Rattle.history.proofs.Lawful.{itemsBefore, itemsNow, totalNow, Lawful}
+use Rattle.history.specs.Claims.{Outside, addRef}
+use Rattle.history.proofs.Lawful.{Lawful}
 use Rattle.history.proofs.Files.{missing-none, total-one, others, with-others, with-others-now, true-row}
 
 -- what an operation shows of its plan to be one of a change

@@ -3,7 +3,7 @@ use mathlib.Core.Path.{_≡_, _∙_, ap}
 use mathlib.Core.Bool.{Bool}
 use mathlib.Core.List.{List}
 use Prim.Native.Nat.{ℕ, _+_}
-use Rattle.records.specs.Stages.{unless, first, every}
+use Rattle.records.specs.Stages.{unless, first}
 use Rattle.request.specs.Answers.{plan}
 use Rattle.plan.specs.Plans.{Plan}
 use Rattle.apply.proofs.Refusals.{Fit, applying-refused}

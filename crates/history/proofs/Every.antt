@@ -9,6 +9,7 @@ use lib.Dec.{eqb}
 use borrow.Author.Tests.{eqb-true, eqb-false}
 use Rattle.records.specs.Stages.{every}
 use Rattle.records.proofs.Tests.{both-left, both-right}
+use Rattle.records.proofs.Counts.{count-some}
 use Rattle.table.specs.Rows.{find}
 use Rattle.table.specs.declared.Row.{Row}
 use Rattle.table.specs.declared.Found.{Found}
@@ -17,7 +18,7 @@ use Rattle.request.specs.Answers.{Outcome, plan, nothing, refused}
 use Rattle.cut.specs.Refs.{Ref, sameRef, referring}
 use Rattle.plan.specs.Plans.{Plan, Add}
 use Rattle.apply.specs.Apply.{gained, lost, rowsAfter}
-use Rattle.apply.proofs.Rows.{count-some, Counted, Accepted, apply-cases, addsAt, adds-once, added-counted, moved-counted, missing-counts}
+use Rattle.apply.proofs.Rows.{Counted, Accepted, apply-cases, addsAt, adds-once, added-counted, moved-counted, missing-counts}
 use Rattle.history.specs.States.{State, listOf, withList, total, TrueTable}
 use Rattle.history.specs.Calls.{Call, Applied, lentOf, answerOf, afterApplying, traceOf, stepOf, stepTrace, step, run, trace}
 use Rattle.history.specs.Claims.{StayKept, MappingsKept, Each, sumFor, plus, minus, Balanced, lineAt, ReleasedAtZero, unmarked, Demand3}

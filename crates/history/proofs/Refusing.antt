@@ -1,28 +1,27 @@
 -- What applying can still refuse of a plan that an operation made: 1 for an over-long result, and 3 for a net count; with a
 -- true table only for a count over 2^64 - 1. Assumes nothing.
-use mathlib.Core.Path.{_≡_, refl, ap, _∙_, sym}
-use mathlib.Core.Bool.{Bool, true, false, cond, _&&_, not}
+use mathlib.Core.Path.{_≡_, refl, ap, _∙_}
+use mathlib.Core.Bool.{Bool, true, _&&_}
 use mathlib.Core.List.{List, [], _∷_, List·Memᴰ, List·Memᴰ·head, List·Memᴰ·tail}
-use Prim.Native.Nat.{ℕ, _+_, _-_, _<_, _≤_, _^_}
+use Prim.Native.Nat.{ℕ, _+_, _-_, _<_, _≤_}
 use native.Mathlib.Omega.{arith}
 use native.Mathlib.Decide.{decLt}
-use lib.Dec.{eqb, leb, ltb}
+use lib.Dec.{eqb}
 use borrow.Author.Tests.{le-leb, eqb-true}
 use Rattle.records.specs.Stages.{every}
-use Rattle.records.specs.Select.{count}
-use Rattle.records.proofs.Tests.{both}
+use Rattle.records.proofs.Counts.{count-some}
 use Rattle.table.specs.declared.Row.{Row}
 use Rattle.table.specs.declared.Found.{Found}
 use Rattle.table.specs.declared.Found.the-variants.{At, Missing}
 use Rattle.table.specs.Rows.{tableKept, find}
-use Rattle.cut.specs.Refs.{Ref, naming}
+use Rattle.cut.specs.Refs.{Ref}
 use Rattle.plan.specs.Plans.{Plan, Add}
-use Rattle.apply.specs.Apply.{linesAt, gained, lost, netSound}
-use Rattle.apply.proofs.Rows.{count-some, kept-mem, addsAt}
-use Rattle.history.specs.States.{State, listOf, total, TrueTable}
+use Rattle.apply.specs.Apply.{gained, lost, netSound}
+use Rattle.apply.proofs.Rows.{kept-mem, addsAt}
+use Rattle.history.specs.States.{State, total, TrueTable}
 use Rattle.history.specs.Calls.{Call, lentOf}
-use Rattle.history.specs.Claims.{addRef, countFits}
-use Rattle.history.proofs.Lawful.{itemsBefore, itemsNow, Lawful}
+use Rattle.history.specs.Claims.{countFits}
+use Rattle.history.proofs.Lawful.{Lawful}
 use Rattle.history.proofs.Files.{total-one}
 
 module _ (sector : ℕ) (s : State) (c : Call) (p : Plan) (law : Lawful sector s c p) (t : TrueTable s) (kept : tableKept (s .rows) ≡ true) where

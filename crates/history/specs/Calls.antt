@@ -1,7 +1,7 @@
 -- The calls of demand 3: "calls that plan (punch, fallocate, clone) on one volume's files, refused ones, those with nothing
 -- to do and those whose applying is refused included, each on the lists and table the last left, each plan applied before
 -- the next". The sector stays; all else that is lent is free at each call.
-use mathlib.Core.Bool.{Bool, true, false, cond}
+use mathlib.Core.Bool.{Bool}
 use mathlib.Core.List.{List, [], _∷_, _++_}
 use Prim.Native.Nat.{ℕ, _+_}
 use Rattle.item.specs.Items.{Fields}

@@ -1,15 +1,15 @@
 -- What the setters and the constructor make of an item's numbers. Assumes nothing.
-use mathlib.Core.Path.{_≡_, refl, _∙_, ap}
+use mathlib.Core.Path.{_≡_, refl, ap}
 use mathlib.Core.List.{List}
-use Prim.Native.Nat.{ℕ, _+_, _*_, _/_, _<_, _^_}
+use Prim.Native.Nat.{ℕ, _*_, _/_, _<_, _^_}
 use native.Mathlib.Omega.{arith}
-use lib.ListN.{length, getD, drop, replicate}
+use lib.ListN.{length, getD, drop}
 use Rattle.endian.specs.Le.{le, num, room}
-use Rattle.endian.proofs.Fields.{place, dec}
+use Rattle.endian.proofs.Fields.{place}
 use Rattle.records.specs.Records.{records}
 use Rattle.records.proofs.Loops.{rest, rest-all, chunks-length, chunks-at}
 use Rattle.item.specs.declared.Item.{Item}
-use Rattle.item.specs.Items.{Fields, fields, itemOf, decode, items, regularItem, windowed, joined, writtenInPlace, ofKind, changed}
+use Rattle.item.specs.Items.{Fields, fields, itemOf, decode, items, regularItem, ofKind, changed}
 use Rattle.item.specs.Raw.{written, blank}
 use Rattle.item.proofs.Runs.{Reads, reads-written}
 

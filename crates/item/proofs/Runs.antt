@@ -1,12 +1,12 @@
 -- An item's numbers as a run of fields, so that one law of runs serves every field. Assumes nothing.
 use mathlib.Core.Path.{_≡_, refl, ap, _∙_, sym}
 use mathlib.Core.List.{List, [], _∷_, _++_, append-assoc, append-nil}
-use Prim.Native.Nat.{ℕ, zero, suc, _+_, _<_, _≤_}
+use Prim.Native.Nat.{ℕ, suc, _+_, _<_, _≤_}
 use native.Mathlib.Omega.{arith}
 use native.Mathlib.Nat.{add-zero}
 use lib.ListN.{length, getD, take, drop, set, length-append}
 use lib.Seq.{take-all, drop-drop}
-use Rattle.endian.specs.Le.{le, num, enc, put, room, Bytes}
+use Rattle.endian.specs.Le.{num, enc, put, room, Bytes}
 use Rattle.endian.proofs.Numbers.{length-enc, num-drop, num-room}
 use Rattle.endian.proofs.Puts.{put-put, length-put}
 use Rattle.endian.proofs.Fields.{dec, encs, sum, Fit, dec-encs, encs-dec, dec-put, place, dec-take, dec-drop, place-le, bytes-take, bytes-drop}

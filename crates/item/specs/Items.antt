@@ -1,5 +1,5 @@
 -- An item: its key and its 53 data bytes as thirteen numbers, and a list as its items (document 01, "What a call is lent").
-use mathlib.Core.Bool.{Bool, _||_, not}
+use mathlib.Core.Bool.{Bool, _||_}
 use mathlib.Core.List.{List, _++_}
 use Prim.Native.Nat.{ℕ, _+_, _-_, _%_, _^_, _<_}
 use lib.Dec.{eqb}

@@ -1,8 +1,8 @@
 -- Lists and records at each bound of the definitions, computed.
 use mathlib.Core.Path.{_≡_, refl}
-use mathlib.Core.Bool.{Bool, true, false}
+use mathlib.Core.Bool.{Bool, true}
 use mathlib.Core.List.{List, [], _∷_}
-use Prim.Native.Nat.{ℕ, _+_, _-_, _^_}
+use Prim.Native.Nat.{ℕ, _-_, _^_}
 use lib.Dec.{eqb}
 use Rattle.records.specs.Stages.{unless, first, firstOf, every, pairs}
 use Rattle.item.specs.Items.{Fields, regularItem, changed}

@@ -1,16 +1,16 @@
 -- What callers have of a list that was accepted. Assumes nothing.
-use mathlib.Core.Path.{_≡_, refl, _∙_}
+use mathlib.Core.Path.{_≡_, refl}
 use mathlib.Core.Bool.{Bool, true, false, _&&_, _||_, not}
-use mathlib.Core.List.{List, [], _∷_}
+use mathlib.Core.List.{List, _∷_}
 use mathlib.Core.Logic.{⊎-elim}
-use Prim.Native.Nat.{ℕ, _+_, _%_, _<_, _≤_}
+use Prim.Native.Nat.{ℕ, _%_, _<_, _≤_}
 use native.Mathlib.Omega.{arith}
 use native.Mathlib.Decide.{ℕ-discrete}
-use lib.Dec.{eqb, leb, ltb}
+use lib.Dec.{eqb, leb}
 use lib.ListN.{length, getD}
 use borrow.Author.Tests.{eqb-true, eqb-false, eq-eqb, leb-true, ltb-true, not-true}
 use Rattle.records.specs.Stages.{unless, first, firstOf, every, pairs}
-use Rattle.records.proofs.Tests.{both, both-left, both-right, either, either-left, either-right, implied, first-zero, unless-zero, every-at, pairs-at}
+use Rattle.records.proofs.Tests.{both-left, both-right, either, either-left, either-right, implied, first-zero, unless-zero, every-at, pairs-at}
 use Rattle.item.specs.Items.{Fields, ranged, end}
 use Rattle.lists.specs.Lists.{itemSound, rangeSound, rises, apart, wellKept, whole, recordRefusal}
 use Rattle.lists.proofs.Order.{Ranged, item-ranged}

@@ -5,7 +5,7 @@ use mathlib.Core.List.{List, [], _∷_}
 use Prim.Native.Nat.{ℕ, _+_, _%_, _^_}
 use lib.Dec.{eqb, leb, ltb}
 use lib.ListN.{length}
-use Rattle.records.specs.Stages.{unless, firstOf, stage, every, pairs}
+use Rattle.records.specs.Stages.{unless, firstOf, every, pairs}
 use Rattle.item.specs.Items.{Fields, items, ranged, end}
 
 -- 1: "a list .. of broken length, over-long"; "A list holds 0 to 65,536 records"

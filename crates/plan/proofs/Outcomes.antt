@@ -4,7 +4,7 @@ use mathlib.Core.Bool.{Bool, true, false, cond}
 use mathlib.Core.Option.{Option, none, some}
 use Prim.Native.Nat.{ℕ, zero, suc}
 use native.Mathlib.Omega.{arith}
-use Rattle.request.specs.Answers.{Outcome, plan, nothing, refused}
+use Rattle.request.specs.Answers.{Outcome, plan, nothing}
 use Rattle.plan.specs.Plans.{Plan, refusedOr, orNothing}
 
 -- a plan was not refused before it was made

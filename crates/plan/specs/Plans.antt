@@ -1,9 +1,9 @@
 -- A plan (document 01, "What a call is lent"): "edits (put or delete, by key), shares, unrefs, releases, adds, sector
 -- writes, the new size, the byte count and a mark for preallocation, all in the Rust's order".
-use mathlib.Core.Bool.{Bool, true, false, cond, _&&_}
+use mathlib.Core.Bool.{Bool, cond, _&&_}
 use mathlib.Core.List.{List}
 use mathlib.Core.Option.{Option, none, some}
-use Prim.Native.Nat.{ℕ, zero, suc, _+_, _-_}
+use Prim.Native.Nat.{ℕ, zero, suc}
 use lib.Dec.{leb, ltb}
 use lib.ListN.{length}
 use Rattle.request.specs.declared.Numbers.{Numbers}

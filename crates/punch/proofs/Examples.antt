@@ -1,11 +1,11 @@
 -- Punches at their bounds, computed.
 use mathlib.Core.Path.{_≡_, refl}
-use mathlib.Core.Bool.{Bool, true, false}
+use mathlib.Core.Bool.{Bool, false}
 use mathlib.Core.List.{List, [], _∷_, map, flatMap}
 use Prim.Native.Nat.{ℕ, _-_, _^_}
 use Rattle.records.specs.Stages.{first, firstOf, stage, every, pairs, neighbours}
 use Rattle.records.specs.Select.{keep, any, count}
-use Rattle.item.specs.Items.{Fields, regularItem, windowed, ofKind, changed as withNumbers}
+use Rattle.item.specs.Items.{Fields, regularItem, changed as withNumbers}
 use Rattle.table.specs.declared.Row.{Row}
 use Rattle.table.specs.Rows.{tableKept, findFrom}
 use Rattle.lists.specs.Lists.{wellKept}

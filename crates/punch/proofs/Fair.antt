@@ -1,16 +1,17 @@
 -- A punch asks for a fair change, of the whole and partial sectors of its range. Assumes nothing.
-use mathlib.Core.Path.{_≡_, refl, _∙_, sym}
+use mathlib.Core.Path.{_≡_, refl, _∙_}
 use mathlib.Core.Bool.{Bool, true, false, cond}
 use mathlib.Core.List.{List, List·Memᴰ, Memᴰ·cast}
 use mathlib.Core.Option.{Option, none, some}
 use mathlib.Core.Logic.{_⊎_, inl, inr, ⊎-elim}
 use Prim.Native.Nat.{ℕ, _+_, _%_, _≤_, _<_, _^_, max, min}
 use native.Mathlib.Omega.{arith}
-use native.Mathlib.Nat.{add-zero, add-mod-mod}
 use native.Mathlib.Decide.{decLt}
 use lib.Dec.{ltb}
 use borrow.Author.Tests.{eq-eqb, le-leb, ltb-true}
 use Rattle.records.specs.Stages.{every, pairs}
+use Rattle.records.proofs.Lists.{every-mem, every-all}
+use Rattle.records.proofs.Wholes.{add-whole}
 use Rattle.item.specs.Items.{Fields, ranged, end}
 use Rattle.table.specs.declared.Row.{Row}
 use Rattle.lists.specs.Lists.{whole}
@@ -25,14 +26,12 @@ use Rattle.change.specs.Rewrites.{Ground, Rewrite, itemsHeld}
 use Rattle.change.specs.Changes.{Change}
 use Rattle.change.proofs.Fair.{Sound, Fair, rewriteInside}
 use Rattle.change.proofs.Rounding.{whole-next, down-below, down-near, down-whole, down-last, down-rises, up-above, up-whole, up-self, up-limit, sector-limit}
-use Rattle.punch.specs.Punch.{firstHeld, startIn, heldBy, punchChange, changeFrom, planPunch, groundOf}
+use Rattle.punch.specs.Punch.{firstHeld, startIn, heldBy, punchChange, changeFrom, planPunch, groundOf, Part}
 use Rattle.punch.proofs.Planned.{Planned, records-ranged, ground-items, ground-sound}
-use Rattle.punch.proofs.Starts.{every-one, every-all, holding, hold, holder-some, some-holder, First, first-some, first-past, first-least, first-holds, first-whole}
-use Rattle.punch.proofs.Shapes.{Part, Rewritten, Drawn, drawn}
+use Rattle.punch.proofs.Starts.{holding, hold, holder-some, some-holder, First, first-some, first-past, first-least, first-holds, first-whole}
+use Rattle.punch.proofs.Shapes.{Rewritten, Drawn, drawn}
 
 -- two whole numbers of sectors are one
-sum-whole : (s y z : ℕ) → y % s ≡ 0 → z % s ≡ 0 → (y + z) % s ≡ 0
-sum-whole s y z p q = sym (add-mod-mod y z s) ∙ rw (q, add-zero) p
 
 rewrite-is : (w : Rewrite) (y b e : ℕ) → w .sector ≡ y → w .first ≡ b → w .end ≡ e → _≡_ {A = Rewrite} (record { sector = y; first = b; end = e }) w
 rewrite-is w y b e p q r = rw (← p, ← q, ← r) refl
@@ -84,7 +83,7 @@ module _ (g : Ground) (fs : List Fields) (items : itemsHeld (g .held) ≡ fs) (s
   start-held =
       let f : Fields = a .first .item in
       let k = holding (a .start) f (first-holds offset (a .start) fs (a .first) (g .file) kept ranges) in
-      let w = whole-facts (g .sector) f (every-one (whole (g .sector)) fs sectors (a .first .among)) (k .range) in
+      let w = whole-facts (g .sector) f (every-mem (whole (g .sector)) (a .first .among) sectors) (k .range) in
       holder-some (roundDown (g .sector) (a .start)) f fs (a .first .among)
       (hold (roundDown (g .sector) (a .start)) f
       (record { range = k .range; named = k .named; low = down-last (g .sector) pos (a .start) (f .key) (w .0) (k .low); high = omega (arith, down-below (g .sector) pos (a .start)) }))
@@ -161,8 +160,8 @@ module _ (g : Ground) (fs : List Fields) (items : itemsHeld (g .held) ≡ fs) (s
   start-before y o w h l b e =
       let i = some-holder y fs h in
       let k = holding y (i .0) (i .2) in
-      let v = whole-facts (g .sector) (i .0) (every-one (whole (g .sector)) fs sectors (i .1)) (k .range) in
-      let n = whole-next (g .sector) pos y (end (i .0)) w (sum-whole (g .sector) (i .0 .key) (i .0 .length) (v .0) (v .1)) (k .high) in
+      let v = whole-facts (g .sector) (i .0) (every-mem (whole (g .sector)) (i .1) sectors) (k .range) in
+      let n = whole-next (g .sector) pos y (end (i .0)) w (add-whole (g .sector) (i .0 .key) (i .0 .length) (v .0) (v .1)) (k .high) in
       first-least offset (a .start) fs (a .first) (i .0) o (i .1) (hold o (i .0) (record { range = k .range; named = k .named; low = omega arith; high = omega arith })) l
 
   -- a sector that the range covers in part is so covered from the start on

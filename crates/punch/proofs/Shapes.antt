@@ -18,7 +18,7 @@ use Rattle.change.specs.Rounding.{roundDown, roundUp}
 use Rattle.change.specs.Rewrites.{Rewrite}
 use Rattle.change.specs.Changes.{Change}
 use Rattle.change.proofs.Rounding.{whole-next, down-below, down-near, down-whole, down-last, down-rises, up-above, up-whole, up-first}
-use Rattle.punch.specs.Punch.{heldBy, inOneSector, firstPart, lastPart, withinSector, acrossSectors, punchChange}
+use Rattle.punch.specs.Punch.{heldBy, inOneSector, firstPart, lastPart, withinSector, acrossSectors, punchChange, Part}
 
 -- ---- one of a list, or none
 
@@ -53,18 +53,9 @@ module _ (s : ℕ) (pos : 0 < s) where
 -- ---- what is to be rewritten, and what a change is to be
 
 module _ (fs : List Fields) (size s x stop : ℕ) where
-  -- a sector that [x, stop) covers in part, below the size rounded up, with its first byte held
-  pub record Part (y : ℕ) : Type 0 where
-    pub whole : y % s ≡ 0
-    pub begins : y < stop
-    pub ends : x < y + s
-    pub partly : (y < x) ⊎ (stop < y + s)
-    pub below : y < roundUp s size
-    pub held : heldBy (holder y fs) ≡ true
-
-  -- it is rewritten with what is covered of it zero, inside the cut
+  -- a sector that [x, stop) covers in part is rewritten with what is covered of it zero, inside the cut
   pub record Rewritten (lo hi : ℕ) (w : Rewrite) : Type 0 where
-    pub part : Part (w .sector)
+    pub part : Part fs size s x stop (w .sector)
     pub first : w .first ≡ max x (w .sector)
     pub end : w .end ≡ min stop (w .sector + s)
     pub lower : lo ≤ w .sector
@@ -78,7 +69,7 @@ module _ (fs : List Fields) (size s x stop : ℕ) where
     pub ends : c .hi ≤ roundUp s stop
     pub inside : (o : ℕ) → roundUp s x ≤ o → o < roundDown s stop → (c .lo ≤ o) × (o < c .hi)
     pub rewritten : (w : Rewrite) → List·Memᴰ w (c .rewrites) → Rewritten (c .lo) (c .hi) w
-    pub parts : (y : ℕ) → Part y → (w : Rewrite) × List·Memᴰ w (c .rewrites) × (w .sector ≡ y)
+    pub parts : (y : ℕ) → Part fs size s x stop y → (w : Rewrite) × List·Memᴰ w (c .rewrites) × (w .sector ≡ y)
     pub rising : pairs (λ (r t : Rewrite). leb (r .sector + s) (t .sector)) (c .rewrites) ≡ true
     pub unfilled : c .holes ≡ []
     pub sized : c .size ≡ size

@@ -1,6 +1,6 @@
 -- What each offset of a punched file maps to. Assumes nothing.
 use mathlib.Core.Path.{_≡_, refl, _∙_}
-use mathlib.Core.Bool.{Bool, true, false, cond, _&&_, not}
+use mathlib.Core.Bool.{Bool, true, false, cond, not}
 use mathlib.Core.List.{List, [], _∷_, _++_, List·Memᴰ, List·Memᴰ·head, List·Memᴰ·tail, Memᴰ·append-right}
 use mathlib.Core.Option.{none, some}
 use mathlib.Core.Logic.{_⊎_, inl, inr, ⊎-elim}
@@ -11,6 +11,7 @@ use native.Mathlib.Decide.{decLt}
 use lib.Dec.{ltb}
 use Rattle.records.specs.Stages.{every}
 use Rattle.records.specs.Select.{only}
+use Rattle.records.proofs.Lists.{every-all}
 use Rattle.item.specs.Items.{Fields}
 use Rattle.table.specs.declared.Row.{Row}
 use Rattle.cut.specs.Mappings.{holds, mappingIn, mapping}
@@ -28,10 +29,10 @@ use Rattle.change.proofs.Preallocs.{limit-whole}
 use Rattle.change.proofs.Fair.{Sound}
 use Rattle.change.proofs.Rounding.{whole-next, down-below, down-near, down-whole, down-last, up-above, up-whole, up-first}
 use Rattle.change.proofs.Shown.{onSector, lies-off, mapping-outside, mapping-inside}
-use Rattle.punch.specs.Punch.{inOneSector, firstPart, lastPart, withinSector, acrossSectors, groundOf, Punched}
+use Rattle.punch.specs.Punch.{inOneSector, firstPart, lastPart, withinSector, acrossSectors, groundOf, Punched, Part}
 use Rattle.punch.proofs.Planned.{Planned, ground-items}
-use Rattle.punch.proofs.Starts.{every-all, first-past}
-use Rattle.punch.proofs.Shapes.{Part, sector-of}
+use Rattle.punch.proofs.Starts.{first-past}
+use Rattle.punch.proofs.Shapes.{sector-of}
 use Rattle.punch.proofs.Fair.{Asked, drawn-from, change-begins, change-ends, rewrite-part, whole-unwritten, whole-cut, planned-sound, planned-asked, planned-fair}
 
 -- ---- one offset

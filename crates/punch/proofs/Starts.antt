@@ -10,7 +10,8 @@ use native.Mathlib.Decide.{decLe}
 use lib.Dec.{leb, ltb}
 use borrow.Author.Tests.{leb-true, ltb-true, ltb-false, le-leb, lt-ltb, not-true}
 use Rattle.records.specs.Stages.{every}
-use Rattle.records.proofs.Tests.{both, both-left, both-right}
+use Rattle.records.proofs.Tests.{both-left, both-right}
+use Rattle.records.proofs.Lists.{every-mem}
 use Rattle.item.specs.Items.{Fields, ranged, hole, end}
 use Rattle.lists.specs.Lists.{itemSound, whole}
 use Rattle.lists.proofs.Order.{item-ranged}
@@ -19,18 +20,6 @@ use Rattle.cut.specs.Mappings.{named, holds, holder}
 use Rattle.punch.specs.Punch.{lower, firstHeld, heldBy}
 
 -- ---- items of a list
-
--- what every record passes, each does
-pub every-one : {A : Type 0} (p : A → Bool) {a : A} (l : List A) → every p l ≡ true → List·Memᴰ a l → p a ≡ true
-unfolding every
-every-one p (b ∷ l) h (List·Memᴰ·head e) = rw e (both-left (p b) (every p l) h)
-every-one p (b ∷ l) h (List·Memᴰ·tail m) = every-one p l (both-right (p b) (every p l) h) m
-
--- what each record passes, every one does
-pub every-all : {A : Type 0} (p : A → Bool) (l : List A) → ((a : A) → List·Memᴰ a l → p a ≡ true) → every p l ≡ true
-unfolding every
-every-all p [] h = refl
-every-all p (a ∷ l) h = both (p a) (every p l) (h a (List·Memᴰ·head refl)) (every-all p l (λ b m. h b (List·Memᴰ·tail m)))
 
 -- what holding an offset says
 pub record Holding (o : ℕ) (f : Fields) : Type 0 where
@@ -177,14 +166,14 @@ module _ (offset x : ℕ) (fs : List Fields) (first : First offset x fs) where
     -- its item holds it
     pub first-holds : holds x (first .item) ≡ true
     first-holds =
-        let r = every-one ranged fs ranges (first .among) in
-        let s = item-ranged file (first .item) (every-one (itemSound file) fs (kept .sound) (first .among)) r in
+        let r = every-mem ranged (first .among) ranges in
+        let s = item-ranged file (first .item) (every-mem (itemSound file) (first .among) (kept .sound)) r in
         hold x (first .item) (record { range = r; named = first .past .named; low = omega arith; high = omega arith })
 
     -- it is the offset itself or a sector start
     pub first-whole : (sector : ℕ) → every (whole sector) fs ≡ true → (x ≡ offset) ⊎ (x % sector ≡ 0)
     first-whole sector w =
-        let k = whole-facts sector (first .item) (every-one (whole sector) fs w (first .among)) (every-one ranged fs ranges (first .among)) in
+        let k = whole-facts sector (first .item) (every-mem (whole sector) (first .among) w) (every-mem ranged (first .among) ranges) in
         elim (decLe (first .item .key) offset) [
           | yes l ↦ inl (omega arith)
           | no l ↦ let e : x ≡ first .item .key = omega arith in inr (rw e (k .0))

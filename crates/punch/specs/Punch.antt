@@ -1,12 +1,13 @@
 -- A punch (document 01, "A punch"; `punch_hole`, `range_to_change` and `plan_punch`, fallocate.rs).
 use mathlib.Core.Bool.{Bool, true, false, cond, _&&_, not}
-use mathlib.Core.List.{List, [], _∷_, _++_}
+use mathlib.Core.List.{List, [], _∷_, _++_, List·Memᴰ}
+use mathlib.Core.Logic.{_⊎_}
 use mathlib.Core.Option.{Option, none, some}
 use mathlib.Core.Path.{_≡_}
-use Prim.Native.Nat.{ℕ, _+_, _-_, _≤_, _<_, _^_, max}
-use lib.Dec.{eqb, leb, ltb}
+use Prim.Native.Nat.{ℕ, _+_, _-_, _%_, _≤_, _<_, _^_, min, max}
+use lib.Dec.{eqb, ltb}
 use Rattle.records.specs.Stages.{unless, first, firstOf, stage}
-use Rattle.records.specs.Select.{only}
+use Rattle.records.specs.Select.{only, count}
 use Rattle.item.specs.Items.{Fields, items, hole, end}
 use Rattle.table.specs.declared.Row.{Row}
 use Rattle.table.specs.Rows.{rows}
@@ -18,7 +19,7 @@ use Rattle.request.specs.Lent.{lentRefusal, listBroken, tableBroken}
 use Rattle.request.specs.Answers.{Outcome}
 use Rattle.cut.specs.Mappings.{Mapping, holder}
 use Rattle.refs.specs.Drops.{held}
-use Rattle.plan.specs.Plans.{Plan, refusedOr, orNothing}
+use Rattle.plan.specs.Plans.{Plan, Write, refusedOr, orNothing}
 use Rattle.plan.specs.Outputs.{Rooms}
 use Rattle.change.specs.Rounding.{roundDown, roundUp}
 use Rattle.change.specs.Preallocs.{pieceLimit}
@@ -118,3 +119,28 @@ pub record Punched (sector offset stop : ℕ) (before after : ℕ → Option Map
   pub removed : (o : ℕ) → roundUp sector offset ≤ o → o < roundDown sector stop → after o ≡ none
   pub below : (o : ℕ) → o < roundDown sector offset → after o ≡ before o
   pub above : (o : ℕ) → roundUp sector stop ≤ o → after o ≡ before o
+
+-- a sector that the range covers only in part
+abbrev pub Partly : (sector offset stop y : ℕ) → Type 0
+Partly sector offset stop y = (y < offset) ⊎ (stop < y + sector)
+
+-- one that the range meets, below the size rounded up, with its first byte held by an item: it is rewritten
+pub record Part (fs : List Fields) (size sector offset stop y : ℕ) : Type 0 where
+  pub whole : y % sector ≡ 0
+  pub begins : y < stop
+  pub ends : offset < y + sector
+  pub partly : Partly sector offset stop y
+  pub below : y < roundUp sector size
+  pub held : heldBy (holder y fs) ≡ true
+
+-- a write of a sector whose zero range is the range's part of it
+abbrev pub zeroes : (sector offset stop y : ℕ) → Write → Bool
+zeroes sector offset stop y w = eqb (w .key) y && (eqb (w .first) (max offset y) && eqb (w .end) (min stop (y + sector)))
+
+-- "partial filesystem blocks are zeroed": each such sector has one write, no other has any, and all others that the range
+-- covers only in part keep their mapping
+pub record PartsZeroed (fs : List Fields) (size sector offset stop : ℕ) (writes : List Write) (before after : ℕ → Option Mapping) : Type 0 where
+  pub one : (y : ℕ) → Part fs size sector offset stop y → count (zeroes sector offset stop y) writes ≡ 1
+  pub once : (y : ℕ) → count (λ (w : Write). eqb (w .key) y) writes ≤ 1
+  pub only : (w : Write) → List·Memᴰ w writes → Part fs size sector offset stop (w .key) × (w .first ≡ max offset (w .key)) × (w .end ≡ min stop (w .key + sector))
+  pub kept : (o : ℕ) → Partly sector offset stop (roundDown sector o) → (Part fs size sector offset stop (roundDown sector o) → ⊥) → after o ≡ before o

@@ -1,2 +1,5 @@
 pub mod Tests
 pub mod Loops
+pub mod Lists
+pub mod Counts
+pub mod Wholes

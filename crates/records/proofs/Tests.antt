@@ -9,7 +9,7 @@ use lib.Dec.{leb, ltb}
 use lib.ListN.{length, getD}
 use borrow.Author.Tests.{ltb-true, leb-true, le-leb, lt-ltb}
 use Rattle.records.specs.Select.{keep}
-use Rattle.records.specs.Stages.{unless, first, firstOf, stage, every, pairs, neighbours}
+use Rattle.records.specs.Stages.{unless, first, firstOf, stage, every, pairs}
 
 -- ---- truth values
 

@@ -1,6 +1,6 @@
 -- Tests over all records, and refusals: a stage is 0 or the number of a refusal, and the first that is not 0 counts
 -- (document 01, "When a plan is refused").
-use mathlib.Core.Bool.{Bool, true, false, cond, _&&_}
+use mathlib.Core.Bool.{Bool, true, cond, _&&_}
 use mathlib.Core.List.{List, [], _∷_}
 use Prim.Native.Nat.{ℕ, zero, suc}
 

@@ -9,10 +9,10 @@ use borrow.Author.Tests.{eqb-true, eq-eqb}
 use Rattle.records.specs.Select.{keep, any, count}
 use Rattle.records.specs.Stages.{every}
 use Rattle.records.proofs.Tests.{both, both-left, both-right, same}
+use Rattle.records.proofs.Counts.{count-map, count-keep, count-same, count-never, none-fails}
 use Rattle.item.specs.Items.{Fields}
 use Rattle.cut.specs.Mappings.{named}
 use Rattle.cut.specs.Refs.{Ref, refOf, sameRef, refPasses}
-use Rattle.cut.proofs.Counts.{count-map, count-keep, count-same}
 use Rattle.refs.specs.Compared.{among, refBefore, insertRef, sorted, without, minus, refsAmong, comparedShares, comparedUnrefs}
 
 -- equal either way round
@@ -21,25 +21,6 @@ eqb-swap a b = same (eqb a b) (eqb b a) (turned a b) (turned b a)
   where
     turned : (a b : ℕ) → eqb a b ≡ true → eqb b a ≡ true
     turned a b h = eq-eqb b a (sym (eqb-true a b h))
-
--- ---- counts in any list
-
-module _ {A : Type 0} where
-  -- a test that nothing passes
-  pub count-never : (p : A → Bool) → ((a : A) → p a ≡ false) → (l : List A) → count p l ≡ 0
-  unfolding count
-  count-never p h [] = refl
-  count-never p h (a ∷ l) = rw (h a) (omega (arith, count-never p h l))
-
-  -- none fails: all pass
-  pub none-fails : (p : A → Bool) (l : List A) → count (λ (a : A). not (p a)) l ≡ 0 → every p l ≡ true
-  unfolding count every
-  none-fails p [] h = refl
-  none-fails p (a ∷ l) h = go (p a) (none-fails p l) h
-    where
-      go : (b : Bool) → (count (λ (a : A). not (p a)) l ≡ 0 → every p l ≡ true) → cond (not b) 1 0 + count (λ (a : A). not (p a)) l ≡ 0 → (b && every p l) ≡ true
-      go true f h = f (omega arith)
-      go false f h = absurd (omega arith)
 
 -- ---- lines in order
 

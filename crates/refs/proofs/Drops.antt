@@ -7,9 +7,10 @@ use native.Mathlib.Omega.{arith}
 use lib.Dec.{eqb, ltb}
 use lib.ListN.{length}
 use borrow.Author.Tests.{eqb-true, eqb-false, eq-eqb, ne-eqb, ltb-true, ltb-false, lt-ltb, le-ltb}
-use Rattle.records.specs.Select.{keep, any, count}
+use Rattle.records.specs.Select.{any, count}
 use Rattle.records.specs.Stages.{unless, every}
 use Rattle.records.proofs.Tests.{both, both-left, both-right, either-right, implied, imply, every-map, every-keep, unless-zero}
+use Rattle.records.proofs.Counts.{count-append, count-map, count-keep, count-same, keep-length, count-either, count-given, count-never}
 use Rattle.item.specs.Items.{Fields}
 use Rattle.table.specs.declared.Row.{Row}
 use Rattle.table.specs.declared.Found.{Found}
@@ -17,9 +18,8 @@ use Rattle.table.specs.declared.Found.the-variants.{At, Missing}
 use Rattle.table.specs.Rows.{tableKept, findFrom, find, withRow}
 use Rattle.table.proofs.Laws.{kept-tail, kept-rising, none-missing, found-start}
 use Rattle.cut.specs.Refs.{Ref, refOf}
-use Rattle.cut.proofs.Counts.{count-append, count-map, count-keep, count-same}
 use Rattle.refs.specs.Drops.{Held, held, windowSound, dropRefusal, Due, earlier, dueOf, dropsRefusal, dropsOf, lines, released, releases, unrefs}
-use Rattle.refs.proofs.Compared.{eqb-swap, count-never}
+use Rattle.refs.proofs.Compared.{eqb-swap}
 
 -- ---- items with their bytes
 
@@ -150,35 +150,6 @@ due-lowest rows [] h = absurd (h refl)
 due-lowest rows (d ∷ ds) h = lowest-cons rows d ds (dueOf rows ds) (drops-accepted rows ds) (due-lowest rows ds) h
 
 -- ---- lines
-
-module _ {A : Type 0} where
-  -- as many as are kept
-  keep-length : (p : A → Bool) (l : List A) → length (keep p l) ≡ count p l
-  unfolding keep count
-  keep-length p [] = refl
-  keep-length p (a ∷ l) = go (p a) (keep-length p l)
-    where
-      go : (b : Bool) → length (keep p l) ≡ count p l → length (cond b (a ∷ keep p l) (keep p l)) ≡ cond b 1 0 + count p l
-      go true h = omega arith
-      go false h = omega arith
-
-  -- two tests that are not passed together
-  count-either : (p q t : A → Bool) → ((a : A) → p a ≡ true → q a ≡ false) → (l : List A)
-      → count (λ (a : A). (p a || q a) && t a) l ≡ count (λ (a : A). p a && t a) l + count (λ (a : A). q a && t a) l
-  unfolding count
-  count-either p q t h [] = refl
-  count-either p q t h (a ∷ l) = go (p a) refl (count-either p q t h l)
-    where
-      go : (b : Bool) → p a ≡ b → count (λ (a : A). (p a || q a) && t a) l ≡ count (λ (a : A). p a && t a) l + count (λ (a : A). q a && t a) l
-          → cond ((b || q a) && t a) 1 0 + count (λ (a : A). (p a || q a) && t a) l ≡ (cond (b && t a) 1 0 + count (λ (a : A). p a && t a) l) + (cond (q a && t a) 1 0 + count (λ (a : A). q a && t a) l)
-      go true e k = rw (h a e) (omega arith)
-      go false e k = omega arith
-
-  -- a test that all pass adds nothing
-  count-given : (p t : A → Bool) (l : List A) → every p l ≡ true → count (λ (a : A). p a && t a) l ≡ count t l
-  unfolding count every
-  count-given p t [] h = refl
-  count-given p t (a ∷ l) h = rw (both-left (p a) (every p l) h, count-given p t l (both-right (p a) (every p l) h)) refl
 
 -- the drops of an extent, counted
 pub drops-number : (s : ℕ) (ds : List Held) → length (dropsOf s ds) ≡ count (λ (d : Held). eqb (d .item .extentStart) s) ds

@@ -1,8 +1,8 @@
 -- Every line that a plan has of an extent is of one with a row. Assumes nothing.
-use mathlib.Core.Path.{_≡_, refl, _∙_, sym}
-use mathlib.Core.Bool.{Bool, true, false, cond, _&&_}
-use mathlib.Core.List.{List, [], _∷_, _++_, map, flatMap}
-use Prim.Native.Nat.{ℕ, zero, suc, _+_, _<_}
+use mathlib.Core.Path.{_≡_, refl, _∙_}
+use mathlib.Core.Bool.{Bool, true, false, cond}
+use mathlib.Core.List.{List, [], _∷_, map}
+use Prim.Native.Nat.{ℕ, suc, _+_, _<_}
 use native.Mathlib.Omega.{arith}
 use lib.Dec.{eqb}
 use lib.ListN.{length, getD}
@@ -10,6 +10,7 @@ use borrow.Author.Tests.{eqb-true}
 use Rattle.records.specs.Stages.{unless, stage, every}
 use Rattle.records.specs.Select.{keep}
 use Rattle.records.proofs.Tests.{both, both-left, both-right, first-go, stage-zero}
+use Rattle.records.proofs.Lists.{every-flat}
 use Rattle.item.specs.Items.{Fields}
 use Rattle.table.specs.declared.Row.{Row}
 use Rattle.table.specs.declared.Found.{Found}
@@ -41,16 +42,6 @@ rows-from rows h n (t ∷ ts) f =
 rows-found : (rows : List Row) → tableKept rows ≡ true → every (λ (t : Row). isFound (find (t .start) rows)) rows ≡ true
 rows-found rows h = rows-from rows h 0 rows (λ i e l. let z : 0 + i ≡ i = omega arith in (omega arith, rw z refl))
 
-pub every-append : {A : Type 0} (p : A → Bool) (l m : List A) → every p l ≡ true → every p m ≡ true → every p (l ++ m) ≡ true
-unfolding every
-every-append p [] m h k = k
-every-append p (a ∷ l) m h k = both (p a) (every p (l ++ m)) (both-left (p a) (every p l) h) (every-append p l m (both-right (p a) (every p l) h) k)
-
-every-flat : {A B : Type 0} (u : A → Bool) (p : B → Bool) (g : A → List B) → ((a : A) → u a ≡ true → every p (g a) ≡ true) → (l : List A) → every u l ≡ true → every p (flatMap g l) ≡ true
-unfolding flatMap every
-every-flat u p g f [] h = refl
-every-flat u p g f (a ∷ l) h = every-append p (g a) (flatMap g l) (f a (both-left (u a) (every u l) h)) (every-flat u p g f l (both-right (u a) (every u l) h))
-
 -- the lines of one row
 lines-rowed : (rows : List Row) (start : ℕ) → isFound (find start rows) ≡ true → (ds : List Held) → every (rowed rows) (lines start ds) ≡ true
 unfolding every keep
@@ -66,10 +57,10 @@ given rows ds true row h = (lines-rowed rows (row .start) h ds, unfold every in 
 given rows ds false row h = (unfold every in refl, lines-rowed rows (row .start) h ds)
 
 pub releases-rowed : (rows : List Row) (ds : List Held) → tableKept rows ≡ true → every (rowed rows) (releases rows ds) ≡ true
-releases-rowed rows ds h = every-flat (λ (t : Row). isFound (find (t .start) rows)) (rowed rows) (λ (row : Row). cond (released ds row) (lines (row .start) ds) []) (λ row e. given rows ds (released ds row) row e .0) rows (rows-found rows h)
+releases-rowed rows ds h = every-flat (λ (t : Row). isFound (find (t .start) rows)) (λ (row : Row). cond (released ds row) (lines (row .start) ds) []) (rowed rows) (λ row e. given rows ds (released ds row) row e .0) rows (rows-found rows h)
 
 pub unrefs-rowed : (rows : List Row) (ds : List Held) → tableKept rows ≡ true → every (rowed rows) (unrefs rows ds) ≡ true
-unrefs-rowed rows ds h = every-flat (λ (t : Row). isFound (find (t .start) rows)) (rowed rows) (λ (row : Row). cond (released ds row) [] (lines (row .start) ds)) (λ row e. given rows ds (released ds row) row e .1) rows (rows-found rows h)
+unrefs-rowed rows ds h = every-flat (λ (t : Row). isFound (find (t .start) rows)) (λ (row : Row). cond (released ds row) [] (lines (row .start) ds)) (rowed rows) (λ row e. given rows ds (released ds row) row e .1) rows (rows-found rows h)
 
 -- references that may be added have rows
 pub more-rowed : (rows : List Row) (l : List Ref) → stage (λ (r : Ref). oneMoreReference (r .start) rows) l ≡ 0 → every (rowed rows) l ≡ true

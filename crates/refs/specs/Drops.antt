@@ -1,13 +1,13 @@
 -- `drop_covered` (clone.rs): "a covered item that is no hole is a drop, a release if the extent's references equal its
 -- drops and none of their leaves is shared, else an unref".
 use mathlib.Core.Bool.{Bool, cond, _&&_, _||_, not}
-use mathlib.Core.List.{List, [], _∷_, map, flatMap, zip}
+use mathlib.Core.List.{List, [], _∷_, map, flatMap}
 use Prim.Native.Nat.{ℕ, _+_}
 use lib.Dec.{eqb, ltb}
 use lib.ListN.{length}
 use Rattle.records.specs.Stages.{unless, every}
 use Rattle.records.specs.Select.{keep}
-use Rattle.item.specs.Items.{Fields, hole}
+use Rattle.item.specs.Items.{Fields}
 use Rattle.table.specs.declared.Row.{Row}
 use Rattle.table.specs.Rows.{find, withRow}
 use Rattle.table.specs.Windows.{windowInside}

@@ -1,10 +1,9 @@
 -- The order of refusals 1 to 4, computed.
 use mathlib.Core.Path.{_≡_, refl}
-use mathlib.Core.Bool.{Bool, true, false, cond}
+use mathlib.Core.Bool.{Bool, true, false}
 use mathlib.Core.List.{List, [], _∷_}
-use Prim.Native.Nat.{ℕ, _+_, _-_, _^_}
+use Prim.Native.Nat.{ℕ, _-_, _^_}
 use lib.Dec.{eqb}
-use lib.ListN.{replicate}
 use Rattle.endian.specs.Le.{le, num, enc}
 use Rattle.records.specs.Records.{chunks, records}
 use Rattle.records.specs.Stages.{first, firstOf, every, pairs, neighbours}

@@ -1,8 +1,8 @@
 -- The stages in the groups of the code are the paper's list of stages; and what acceptance says. Assumes nothing.
-use mathlib.Core.Path.{_≡_, refl, ap, ap₂, _∙_, sym}
+use mathlib.Core.Path.{_≡_, refl, sym}
 use mathlib.Core.Bool.{Bool, true, false, _&&_, _||_, not}
 use mathlib.Core.List.{List}
-use Prim.Native.Nat.{ℕ, _%_, _<_, _≤_, _^_}
+use Prim.Native.Nat.{ℕ, _%_, _<_}
 use native.Mathlib.Omega.{arith}
 use lib.Dec.{eqb, leb}
 use lib.ListN.{length}
@@ -13,7 +13,7 @@ use mathlib.Core.Logic.{⊎-elim}
 use Rattle.item.specs.Items.{Fields, items}
 use Rattle.lists.specs.Lists.{listSized, sharedSound, wellKept, whole}
 use Rattle.table.specs.declared.Row.{Row}
-use Rattle.table.specs.Rows.{rows, tableSized, tableKept}
+use Rattle.table.specs.Rows.{rows, tableKept}
 use Rattle.request.specs.declared.Volume.{Volume}
 use Rattle.request.specs.declared.File.{File}
 use Rattle.request.specs.Lent.{sectorSound, sizeSound, lentRefusal, lentRefusal2, listBroken, tableBroken, lent, lent2}

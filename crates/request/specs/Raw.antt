@@ -6,7 +6,7 @@ use lib.Dec.{eqb}
 use Rattle.records.specs.Stages.{unless, first, every}
 use Rattle.item.specs.Items.{items}
 use Rattle.lists.specs.Lists.{listSized, sharedSound, wellKept, whole}
-use Rattle.table.specs.Rows.{rows, tableSized, tableKept}
+use Rattle.table.specs.Rows.{tableSized}
 use Rattle.request.specs.Lent.{sectorSound, sizeSound}
 
 -- 4 of one file

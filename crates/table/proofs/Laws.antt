@@ -3,18 +3,18 @@
 use mathlib.Core.Path.{_≡_, refl, ap, _∙_, sym}
 use mathlib.Core.Bool.{Bool, true, false, cond, _&&_, not, false≢true}
 use mathlib.Core.List.{List, [], _∷_}
-use Prim.Native.Nat.{ℕ, zero, suc, _+_, _-_, _*_, _/_, _%_, _^_, _<_, _≤_}
+use Prim.Native.Nat.{ℕ, zero, suc, _+_, _-_, _*_, _/_, _^_, _<_, _≤_}
 use native.Mathlib.Omega.{arith}
-use native.Mathlib.Nat.{zero-mul, suc-mul, add-zero, zero-add, add-comm, sub-zero}
+use native.Mathlib.Nat.{add-zero, zero-add, sub-zero}
 use lib.Dec.{eqb, leb, ltb}
 use lib.ListN.{length, getD, drop}
-use lib.Seq.{getD-drop, drop-drop}
+use lib.Seq.{getD-drop}
 use borrow.Author.Tests.{ltb-true, leb-true, eqb-true, eqb-false, not-true, lt-ltb, le-leb, eq-eqb, ne-eqb}
-use Rattle.records.specs.Records.{chunks, records}
+use Rattle.records.specs.Records.{records}
 use Rattle.records.specs.Stages.{unless, first, every, pairs, neighbours, sieve}
 use Rattle.records.proofs.Tests.{both, both-left, both-right, same, every-at, every-map, first-go, first-stop, unless-zero}
 use Rattle.records.proofs.Loops.{rest, rest-all, chunks-length, chunks-at}
-use Rattle.table.specs.Rows.{rowOf, rows, tableSized, rowSound, rowBefore, tableKept, findFrom, find, withRow}
+use Rattle.table.specs.Rows.{rowOf, rows, rowSound, rowBefore, tableKept, findFrom, find, withRow}
 use Rattle.table.specs.Raw.{rowAt, rowFrom, rowRefusal, rowEnd}
 use Rattle.table.specs.Windows.{windowInside}
 use Rattle.table.specs.declared.Row.{Row}

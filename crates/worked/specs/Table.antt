@@ -9,7 +9,7 @@ use Rattle.cut.specs.Refs.{Ref}
 use Rattle.cut.specs.Edits.{Edit, put, delete}
 use Rattle.plan.specs.Plans.{Plan, Add, Write}
 use Rattle.change.specs.Preallocs.{Span, pieceLimit, preallocPieces}
-use Rattle.worked.specs.Ground.{item, whole, punched, allocated, cloned}
+use Rattle.worked.specs.Ground.{item, punched, allocated, cloned}
 
 -- what an example speaks of: a request's answer, the pieces of a hole, or a number
 pub data Told : Type 0 where
