@@ -7,7 +7,7 @@ use Prim.Native.Nat.{ℕ, zero, suc, _+_, _-_, _<_, _≤_}
 use native.Mathlib.Omega.{arith}
 use lib.Dec.{leb, ltb}
 use lib.ListN.{length, getD}
-use borrow.Author.Tests.{ltb-true, leb-true, le-leb, lt-ltb}
+use borrow.Author.Tests.{ltb-true, leb-true, leb-false, not-true, le-leb, lt-ltb, lt-leb}
 use Rattle.records.specs.Select.{keep}
 use Rattle.records.specs.Stages.{unless, first, firstOf, stage, every, pairs}
 
@@ -48,6 +48,11 @@ pub same : (a b : Bool) → (a ≡ true → b ≡ true) → (b ≡ true → a �
 same true b f g = sym (f refl)
 same false true f g = absurd (false≢true (g refl))
 same false false f g = refl
+
+-- not at most is past
+pub not-leb : (a b : ℕ) → not (leb a b) ≡ ltb b a
+not-leb a b =
+    same (not (leb a b)) (ltb b a) (λ h. lt-ltb b a (leb-false a b (not-true (leb a b) h))) (λ h. rw (lt-leb a b (ltb-true b a h)) refl)
 
 -- a sum against a limit, without the sum
 pub leb-sub : (a b m : ℕ) → a ≤ m → leb b (m - a) ≡ leb (a + b) m

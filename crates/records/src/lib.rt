@@ -3,7 +3,7 @@
 ghost use mathlib.Core.Path.{_≡_};
 ghost use mathlib.Core.Bool.{_&&_, _||_};
 ghost use Prim.Native.Nat.{_+_, _^_};
-ghost use lib.Dec.{leb, ltb};
+ghost use lib.Dec.{eqb, leb, ltb};
 ghost use Rattle.records.specs.Stages.{first, unless};
 
 // Both tests hold.
@@ -28,6 +28,23 @@ pub fn sum_at_most(a: u64, b: u64, limit: u64) -> bool
         return false;
     }
     b <= limit - a
+}
+
+// Whether a + b is past a limit.
+pub fn sum_past(a: u64, b: u64, limit: u64) -> bool
+    ensures { λ r. ⌜ r ≡ ltb limit (a + b) ⌝ }
+{
+    !sum_at_most(a, b, limit)
+}
+
+// Whether a + b is c.
+pub fn sum_is(a: u64, b: u64, c: u64) -> bool
+    ensures { λ r. ⌜ r ≡ eqb (a + b) c ⌝ }
+{
+    if c < a {
+        return false;
+    }
+    b == c - a
 }
 
 // Whether a + b fits 64 bits.
