@@ -106,7 +106,7 @@ abbrev pub orApplied : ℕ → Applying → Applying
 orApplied zero a = a
 orApplied (suc n) a = refusal (suc n)
 
--- "Too little room: 27, last": the list and the table are lent with room for so many records and rows
+-- the list and the table are lent with room for so many records and rows; "27: an output is too short" is here the last
 unfoldable pub apply : (sector number generation roomItems roomRows : ℕ) → List Fields → List Row → Plan → Applying
 apply sector number generation roomItems roomRows fs rs p =
     orApplied

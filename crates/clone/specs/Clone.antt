@@ -77,7 +77,7 @@ module _ (rs : List Row) (number from to span : ℕ) where
   overlaps f = ltb from (end f) && ltb (f .key) (from + span)
 
   -- `clone_item`: "Each source item that overlaps is trimmed, moved and shared": trimmed to the range, with its position
-  -- advanced, moved into the destination; "data kept but position and length"
+  -- advanced, moved into the destination; its data else are kept
   abbrev pub cloneItem : Fields → Fields
   cloneItem f =
       windowed f number

@@ -37,7 +37,7 @@ use Rattle.apply.specs.Apply.{rowMissing}
 use Rattle.apply.proofs.Adds.{rows-sound, rows-clear, rows-apart, each-sound, two-apart}
 use Rattle.apply.proofs.Refusals.{Fit}
 use Rattle.history.specs.States.{State, listOf, TrueTable}
-use Rattle.history.specs.Calls.{Call, Lent, lentOf, volumeOf, fileOf, changes}
+use Rattle.history.specs.Calls.{Call, Lent, lentOf, volumeOf, fileOf, changes, origin}
 use Rattle.history.specs.Claims.{Outside, addRef}
 use Rattle.history.proofs.Lawful.{Lawful}
 use Rattle.history.proofs.Files.{missing-none, total-one, others, with-others, with-others-now, true-row}
@@ -99,7 +99,7 @@ module _ (sector : ℕ) (s : State) (l : Lent) (places : List ℕ) (h : Changed 
       (at-every t first (planOf g c pieceLimit places .adds) (λ i k. rw (adds-fresh g c (h .fair) pieceLimit limit-some sectors places (h .placed) i first k) refl)))
 
   -- so a call of which it is the plan is lawful, if it maps what it may
-  module _ (call : Call) (same : lentOf call ≡ l) (shows : (o : ℕ) → Outside o (changes sector call) → mapping o after ≡ mapping o fs) where
+  module _ (call : Call) (same : lentOf call ≡ l) (shows : (o : ℕ) → Outside o (changes sector call) → mapping o after ≡ mapping (origin call o) fs) where
     pub lawful : Lawful sector s call planned
     lawful =
         record {

@@ -15,7 +15,7 @@ use Rattle.cut.specs.Edits.{itemsAfter}
 use Rattle.plan.specs.Plans.{Plan, Add}
 use Rattle.apply.specs.Apply.{linesAt}
 use Rattle.history.specs.States.{State, listOf, withList, total, TrueTable}
-use Rattle.history.specs.Calls.{Call, lentOf, changes}
+use Rattle.history.specs.Calls.{Call, lentOf, changes, origin}
 use Rattle.history.specs.Claims.{Outside, addRef, lineAt, unmarked}
 
 -- the changed file's items before a plan and after it
@@ -30,8 +30,8 @@ abbrev pub totalNow : State → Call → Plan → ℕ → ℕ
 totalNow s c p start = total start (withList (lentOf c .number) (itemsNow s c p) (s .files))
 
 pub record Lawful (sector : ℕ) (s : State) (c : Call) (p : Plan) : Type 0 where
-  -- outside what the call may change, every offset shows what it showed
-  pub mappings : (o : ℕ) → Outside o (changes sector c) → mapping o (itemsNow s c p) ≡ mapping o (itemsBefore s c)
+  -- outside what the call may change, every offset shows what its origin showed
+  pub mappings : (o : ℕ) → Outside o (changes sector c) → mapping o (itemsNow s c p) ≡ mapping (origin c o) (itemsBefore s c)
   -- for every test on references: items + unrefs + releases = items before + shares + adds
   pub balance :
       (q : Ref → Bool)

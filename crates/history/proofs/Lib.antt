@@ -7,3 +7,4 @@ pub mod Punching
 pub mod Refusing
 pub mod Every
 pub mod Demand3
+pub mod Examples

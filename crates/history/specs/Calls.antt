@@ -71,6 +71,13 @@ changes sector (fallocating l ps r k) =
 changes sector (cloning l src own s) =
     record { from = s .to; to = s .to + spanOf sector (s .from) (resolved (chosen own (fileOf l) src .size) (s .from) (s .length)) } ∷ []
 
+-- the offset that one outside these stretches showed before: "each plan applied has kept extent and position", so itself;
+-- an operation that moves what it keeps has another
+abbrev pub origin : Call → ℕ → ℕ
+origin (punching l ps r) o = o
+origin (fallocating l ps r k) o = o
+origin (cloning l src own s) o = o
+
 -- ---- a step, and a run with the plans that were applied
 
 pub record Applied : Type 0 where

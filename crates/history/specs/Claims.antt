@@ -14,7 +14,7 @@ use Rattle.cut.specs.Refs.{Ref, sameRef, referring}
 use Rattle.plan.specs.Plans.{Plan, Add}
 use Rattle.apply.specs.Apply.{gained, lost, netSound, itemsNow, rowsNow, applyRefusal}
 use Rattle.history.specs.States.{State, listOf, total, TrueTable}
-use Rattle.history.specs.Calls.{Call, Lent, Stretch, Applied, lentOf, changes, run, trace}
+use Rattle.history.specs.Calls.{Call, Lent, Stretch, Applied, lentOf, changes, origin, run, trace}
 
 -- 1: "lists once well kept still are"
 abbrev pub StayKept : State → State → Type 0
@@ -28,7 +28,7 @@ Outside o (s ∷ ss) = (s .from ≤ o → o < s .to → ⊥) × Outside o ss
 -- 2: "each plan applied has kept extent and position at all offsets outside both the changed range, widened to sectors, and
 -- the old end's sector"; "other files keep all". How the bytes there are read (kind, compression, encoding) is kept too
 pub record MappingsKept (sector : ℕ) (a : Applied) : Type 0 where
-  pub outside : (o : ℕ) → Outside o (changes sector (a .call)) → mapping o (listOf (lentOf (a .call) .number) (a .after .files)) ≡ mapping o (listOf (lentOf (a .call) .number) (a .before .files))
+  pub outside : (o : ℕ) → Outside o (changes sector (a .call)) → mapping o (listOf (lentOf (a .call) .number) (a .after .files)) ≡ mapping (origin (a .call) o) (listOf (lentOf (a .call) .number) (a .before .files))
   pub others : (n : ℕ) → (n ≡ lentOf (a .call) .number → ⊥) → listOf n (a .after .files) ≡ listOf n (a .before .files)
 
 -- for each plan applied

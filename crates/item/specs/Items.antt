@@ -146,7 +146,7 @@ changed f file key generation kind position length =
       length = length;
     }
 
--- what a cut leaves of an item, and where a clone puts it in a file: "data kept but position and length"
+-- what a cut leaves of an item, and where a clone puts it in a file: its data but position and length are kept
 abbrev pub windowed : Fields → (file key position length : ℕ) → Fields
 windowed f file key position length = changed f file key (f .generation) (f .kind) position length
 
