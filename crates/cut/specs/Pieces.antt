@@ -1,8 +1,9 @@
 -- A file's items after a change, each marked as made by it or kept from before.
 use mathlib.Core.Bool.{Bool, true, false, cond}
-use mathlib.Core.List.{List, [], _∷_, map, flatMap}
+use mathlib.Core.List.{List, [], _∷_, _++_, map, flatMap}
 use Prim.Native.Nat.{ℕ, _+_}
 use lib.Dec.{ltb}
+use lib.ListN.{take, drop}
 use Rattle.item.specs.Items.{Fields, hole}
 use Rattle.cut.specs.Cuts.{cut, touched}
 
@@ -31,6 +32,10 @@ insert x (p ∷ ps) = cond (ltb (x .key) (p .item .key)) (made x ∷ p ∷ ps) (
 unfoldable pub insertAll : List Fields → List Piece → List Piece
 insertAll [] ps = ps
 insertAll (x ∷ xs) ps = insertAll xs (insert x ps)
+
+-- a file's items where those from number `from` up to `to` make way for others
+abbrev pub replaced : List Fields → (from to : ℕ) → List Fields → List Piece
+replaced fs from to segment = map kept (take from fs) ++ (map made segment ++ map kept (drop to fs))
 
 -- "`counted_bytes`: the lengths of items that are no holes."
 unfoldable pub countedBytes : List Fields → ℕ

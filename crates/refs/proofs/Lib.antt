@@ -2,3 +2,4 @@ pub mod Compared
 pub mod Drops
 pub mod Lines
 pub mod Examples
+pub mod Among
