@@ -17,7 +17,8 @@ use Rattle.refs.specs.Drops.{Held}
 use Rattle.plan.specs.Plans.{Add}
 use Rattle.plan.specs.Places.{Wanted, placed}
 use Rattle.change.specs.Preallocs.{Span, nthPiece, piecesFrom}
-use Rattle.change.specs.Rewrites.{Ground, Rewrite, newGeneration, whenHeld, preallocated, eachInPlace}
+use Rattle.change.specs.declared.Rewrite.{Rewrite}
+use Rattle.change.specs.Rewrites.{Ground, newGeneration, whenHeld, preallocated, eachInPlace}
 use Rattle.change.specs.Changes.{newItems}
 
 -- ---- of the rewrites in place

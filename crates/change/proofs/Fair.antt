@@ -13,7 +13,8 @@ use Rattle.lists.proofs.Laws.{Kept}
 use Rattle.request.specs.Lent.{sectorSound}
 use Rattle.cut.proofs.Kept.{clear}
 use Rattle.change.specs.Preallocs.{Span}
-use Rattle.change.specs.Rewrites.{Ground, Rewrite, itemsHeld}
+use Rattle.change.specs.declared.Rewrite.{Rewrite}
+use Rattle.change.specs.Rewrites.{Ground, itemsHeld}
 use Rattle.change.specs.Changes.{Change}
 
 -- the file passed its checks

@@ -23,7 +23,8 @@ use Rattle.refs.proofs.Drops.{isFound}
 use Rattle.refs.proofs.Lines.{rowed, more-rowed, releases-rowed, unrefs-rowed}
 use Rattle.plan.specs.Plans.{Plan, Add}
 use Rattle.plan.specs.Places.{Wanted, placed, placesSound}
-use Rattle.change.specs.Rewrites.{Ground, Rewrite, rewriteRefusal}
+use Rattle.change.specs.declared.Rewrite.{Rewrite}
+use Rattle.change.specs.Rewrites.{Ground, rewriteRefusal}
 use Rattle.change.specs.Changes.{Change, before, piecesJoined, piecesAfter, extentsInPlace, splitRefs, sharesCompared, drops, changeRefusal, wanted, planOf}
 use Rattle.change.proofs.Rewrites.{rewrite-sound}
 use Rattle.change.proofs.Fair.{Fair}

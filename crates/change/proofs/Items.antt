@@ -24,7 +24,8 @@ use Rattle.cut.proofs.Mappings.{Joint, Joins, joins-all, joins-every}
 use Rattle.cut.proofs.Kept.{clear, within, clear-apart, every-cut, every-insertAll}
 use Rattle.refs.specs.Drops.{Held}
 use Rattle.change.specs.Preallocs.{Span}
-use Rattle.change.specs.Rewrites.{Ground, Rewrite, preallocated, inPlace, positionOf, newGeneration, itemInPlace, eachInPlace}
+use Rattle.change.specs.declared.Rewrite.{Rewrite}
+use Rattle.change.specs.Rewrites.{Ground, preallocated, inPlace, positionOf, newGeneration, itemInPlace, eachInPlace}
 use Rattle.change.specs.Changes.{Change, before, piecesWritten, piecesJoined}
 use Rattle.change.proofs.Rounding.{sector-limit, whole-next}
 use Rattle.change.proofs.Rewrites.{holder-says, preallocated-says, in-place-some}

@@ -20,7 +20,8 @@ use Rattle.cut.specs.Mappings.{named}
 use Rattle.cut.proofs.Kept.{clear, clear-apart, cut-clear, allApart}
 use Rattle.plan.specs.Places.{Wanted, placed, placeSound, placesApart, placesSound, clear as placesClear}
 use Rattle.change.specs.Preallocs.{Span, pieceCount, nthPiece, preallocPieces}
-use Rattle.change.specs.Rewrites.{Ground, Rewrite, inPlace}
+use Rattle.change.specs.declared.Rewrite.{Rewrite}
+use Rattle.change.specs.Rewrites.{Ground, inPlace}
 use Rattle.change.specs.Changes.{Change, before, newItems, piecesJoined, sectorsWanted, piecesWanted, wanted}
 use Rattle.change.proofs.Preallocs.{piece-some, piece-inside, piece-apart, piece-start-whole, piece-length-whole}
 use Rattle.change.proofs.Fair.{Fair, rewriteInside, rewritesRise, holeInside, holeFree, holesRise}

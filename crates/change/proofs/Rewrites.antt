@@ -18,7 +18,8 @@ use Rattle.table.specs.Windows.{windowInside}
 use Rattle.cut.specs.Mappings.{holds, holder}
 use Rattle.cut.specs.Refs.{naming}
 use Rattle.refs.specs.Drops.{Held}
-use Rattle.change.specs.Rewrites.{Ground, Rewrite, itemsHeld, holderOf, whenHeld, preallocated, inPlace, positionOf, inPlaceRefusal, rewriteRefusal}
+use Rattle.change.specs.declared.Rewrite.{Rewrite}
+use Rattle.change.specs.Rewrites.{Ground, itemsHeld, holderOf, whenHeld, preallocated, inPlace, positionOf, inPlaceRefusal, rewriteRefusal}
 
 -- ---- the item that holds an offset
 

@@ -24,7 +24,8 @@ use Rattle.cut.proofs.Counts.{insertAll-counts}
 use Rattle.plan.specs.Places.{Wanted, placeSound, placesSound}
 use Rattle.plan.proofs.Places.{places-count}
 use Rattle.change.specs.Preallocs.{Span, pieceCount, nthPiece, preallocPieces}
-use Rattle.change.specs.Rewrites.{Ground, Rewrite, inPlace, newGeneration, itemInPlace}
+use Rattle.change.specs.declared.Rewrite.{Rewrite}
+use Rattle.change.specs.Rewrites.{Ground, inPlace, newGeneration, itemInPlace}
 use Rattle.change.specs.Changes.{Change, before, newItems, piecesWritten, piecesJoined, piecesAfter, sectorsWanted, piecesWanted, wanted}
 use Rattle.change.proofs.Preallocs.{piece-inside, piece-holds}
 use Rattle.change.proofs.Rewrites.{in-place-some}

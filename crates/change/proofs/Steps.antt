@@ -15,7 +15,8 @@ use Rattle.cut.proofs.Kept.{allApart, clear-apart, cut-clear, From, kept-from, 
 use Rattle.cut.proofs.Applied.{edits-applied, from-cut as drawn-cut, from-insertAll as drawn-insertAll, from-joinAll as drawn-joinAll}
 use Rattle.refs.specs.Drops.{Held}
 use Rattle.plan.specs.Places.{placesSound}
-use Rattle.change.specs.Rewrites.{Ground, Rewrite, newGeneration, itemInPlace, eachInPlace}
+use Rattle.change.specs.declared.Rewrite.{Rewrite}
+use Rattle.change.specs.Rewrites.{Ground, newGeneration, itemInPlace, eachInPlace}
 use Rattle.change.specs.Changes.{Change, before, newItems, piecesWritten, piecesJoined, piecesAfter, wanted, planOf}
 use Rattle.change.proofs.Fair.{Fair, rewriteInside}
 use Rattle.change.proofs.Each.{each-every}

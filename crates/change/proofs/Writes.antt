@@ -17,7 +17,8 @@ use Rattle.refs.specs.Drops.{Held}
 use Rattle.plan.specs.Plans.{Write}
 use Rattle.plan.specs.Places.{placesSound}
 use Rattle.plan.proofs.Places.{places-count}
-use Rattle.change.specs.Rewrites.{Ground, Rewrite, whenHeld, preallocated, inPlace, writeInPlace, eachInPlace, rewrittenAnew}
+use Rattle.change.specs.declared.Rewrite.{Rewrite}
+use Rattle.change.specs.Rewrites.{Ground, whenHeld, preallocated, inPlace, writeInPlace, eachInPlace, rewrittenAnew}
 use Rattle.change.specs.Changes.{Change, writesAnew, piecesWanted, wanted, planOf}
 use Rattle.change.proofs.Rounding.{sector-limit}
 use Rattle.change.proofs.Fair.{Fair}

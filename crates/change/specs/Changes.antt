@@ -19,7 +19,8 @@ use Rattle.plan.specs.Plans.{Plan, Add, Write, refusedOr}
 use Rattle.plan.specs.Places.{Wanted, placed, placesSound}
 use Rattle.plan.specs.Outputs.{Rooms, roomFor}
 use Rattle.change.specs.Preallocs.{Span, preallocPieces}
-use Rattle.change.specs.Rewrites.{Ground, Rewrite, itemsHeld, newGeneration, rewriteRefusal, itemInPlace, writeInPlace, eachInPlace, rewrittenAnew}
+use Rattle.change.specs.declared.Rewrite.{Rewrite}
+use Rattle.change.specs.Rewrites.{Ground, itemsHeld, newGeneration, rewriteRefusal, itemInPlace, writeInPlace, eachInPlace, rewrittenAnew}
 
 -- a change of a range: what is cut, [lo, hi), the sectors rewritten inside it, the holes filled, and the new size
 pub record Change : Type 0 where

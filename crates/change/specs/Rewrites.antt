@@ -8,19 +8,16 @@ use lib.Dec.{eqb, ltb}
 use Rattle.records.specs.Stages.{unless, first, firstOf}
 use Rattle.records.specs.Select.{keep}
 use Rattle.item.specs.Items.{Fields, writtenInPlace}
+use Rattle.request.specs.declared.Volume.{Volume}
+use Rattle.request.specs.declared.File.{File}
 use Rattle.table.specs.declared.Row.{Row}
 use Rattle.table.specs.Rows.{find, withRow}
 use Rattle.table.specs.Windows.{windowInside}
 use Rattle.cut.specs.Mappings.{holds}
 use Rattle.cut.specs.Refs.{naming}
-use Rattle.refs.specs.Drops.{Held}
+use Rattle.refs.specs.Drops.{Held, held}
 use Rattle.plan.specs.Plans.{Write}
-
--- a sector of the file, and the offsets of it to zero
-pub record Rewrite : Type 0 where
-  pub sector : ℕ
-  pub first : ℕ
-  pub end : ℕ
+use Rattle.change.specs.declared.Rewrite.{Rewrite}
 
 -- what a change of one file goes by: the sector, the current generation, the last snapshot, nodatacow, the file's number,
 -- its items with their shared bytes, and the table
@@ -32,6 +29,11 @@ pub record Ground : Type 0 where
   pub file : ℕ
   pub held : List Held
   pub rows : List Row
+
+-- from what is lent
+abbrev pub groundOf : Volume → File → List Fields → (shared : List ℕ) → List Row → Ground
+groundOf v f fs shared rs =
+    record { sector = v .sector; generation = v .generation; snapshot = v .snapshot; nodatacow = f .nodatacow; file = f .number; held = held fs shared; rows = rs }
 
 abbrev pub itemsHeld : List Held → List Fields
 itemsHeld hs = map (λ (h : Held). h .item) hs
@@ -62,14 +64,17 @@ positionOf r h = h .item .position + (r .sector - h .item .key)
 
 -- in place 14, 17, 18: "17 .. in place, compressed ones too. 18: references differ from this file's items naming the
 -- extent, or made is not after the last snapshot, or the leaf is shared"
-abbrev pub inPlaceRefusal : Ground → Rewrite → Held → ℕ
-inPlaceRefusal g r h =
-    withRow (find (h .item .extentStart) (g .rows))
+abbrev pub inPlaceWhy : (sector snapshot : ℕ) → List Fields → List Row → Rewrite → Held → ℕ
+inPlaceWhy sector snapshot fs rows r h =
+    withRow (find (h .item .extentStart) rows)
     (λ (row : Row).
     firstOf
-    (unless (windowInside (h .item .extentStart + positionOf r h) (g .sector) (h .item .extentStart) (row .length)) 17
-    ∷ unless (eqb (row .references) (naming (h .item .extentStart) (itemsHeld (g .held))) && (ltb (g .snapshot) (row .made) && eqb (h .shared) 0)) 18
+    (unless (windowInside (h .item .extentStart + positionOf r h) sector (h .item .extentStart) (row .length)) 17
+    ∷ unless (eqb (row .references) (naming (h .item .extentStart) fs) && (ltb snapshot (row .made) && eqb (h .shared) 0)) 18
     ∷ []))
+
+abbrev pub inPlaceRefusal : Ground → Rewrite → Held → ℕ
+inPlaceRefusal g r h = inPlaceWhy (g .sector) (g .snapshot) (itemsHeld (g .held)) (g .rows) r h
 
 -- "for each rewrite 16, nodatacow with a regular holder, else in place 14, 17, 18"
 abbrev pub rewriteRefusal : Ground → Rewrite → ℕ

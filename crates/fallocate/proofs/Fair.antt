@@ -19,7 +19,8 @@ use Rattle.table.specs.declared.Row.{Row}
 use Rattle.plan.specs.Plans.{Plan}
 use Rattle.change.specs.Rounding.{roundDown}
 use Rattle.change.specs.Preallocs.{Span}
-use Rattle.change.specs.Rewrites.{Ground, Rewrite, itemsHeld}
+use Rattle.change.specs.declared.Rewrite.{Rewrite}
+use Rattle.change.specs.Rewrites.{Ground, itemsHeld}
 use Rattle.change.specs.Changes.{Change}
 use Rattle.change.proofs.Fair.{Sound, Fair, rewriteInside, rewritesRise, holeInside}
 use Rattle.change.proofs.Rounding.{down-whole, down-next, up-limit, sector-limit}

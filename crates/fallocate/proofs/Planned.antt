@@ -25,10 +25,10 @@ use Rattle.plan.specs.Places.{placesSound}
 use Rattle.plan.specs.Outputs.{Rooms}
 use Rattle.plan.proofs.Outcomes.{refusedOr-plan, plan-same}
 use Rattle.change.specs.Preallocs.{pieceLimit}
-use Rattle.change.specs.Rewrites.{Ground}
+use Rattle.change.specs.Rewrites.{groundOf, Ground}
 use Rattle.change.specs.Changes.{Change, wanted, planOf, changeRefusal, changed}
 use Rattle.change.proofs.Fair.{Sound}
-use Rattle.punch.specs.Punch.{rangeRefusal, groundOf}
+use Rattle.punch.specs.Punch.{rangeRefusal}
 use Rattle.punch.proofs.Planned.{records-ranged}
 use Rattle.fallocate.specs.Fallocate.{from, to, endSector, endStop, itemRefusal, holesToAllocate, sumOf, fallocateChange, fallocateRefusal, fallocate}
 use Rattle.fallocate.proofs.Less.{inside, over, within, within-facts, without-facts}

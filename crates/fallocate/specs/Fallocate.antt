@@ -20,9 +20,10 @@ use Rattle.plan.specs.Plans.{Plan, refusedOr}
 use Rattle.plan.specs.Outputs.{Rooms}
 use Rattle.change.specs.Rounding.{roundDown, roundUp}
 use Rattle.change.specs.Preallocs.{Span, pieceLimit}
-use Rattle.change.specs.Rewrites.{Rewrite}
+use Rattle.change.specs.declared.Rewrite.{Rewrite}
 use Rattle.change.specs.Changes.{Change, changed}
-use Rattle.punch.specs.Punch.{rangeRefusal, groundOf}
+use Rattle.change.specs.Rewrites.{groundOf}
+use Rattle.punch.specs.Punch.{rangeRefusal}
 
 -- "rewrites the sector of an old end inside a sector, zeroing from the size on, when the range ends past the size,
 -- keep-size or not"

@@ -23,7 +23,7 @@ use Rattle.refs.proofs.Lines.{rowed-stage}
 use Rattle.plan.specs.Plans.{Plan, Add}
 use Rattle.plan.specs.Places.{placesSound}
 use Rattle.change.specs.Preallocs.{pieceLimit}
-use Rattle.change.specs.Rewrites.{Ground}
+use Rattle.change.specs.Rewrites.{groundOf, Ground}
 use Rattle.change.specs.Changes.{Change, before, piecesAfter, changeRefusal, wanted, planOf}
 use Rattle.change.proofs.Preallocs.{limit-whole}
 use Rattle.change.proofs.Fair.{Fair}
@@ -31,7 +31,6 @@ use Rattle.change.proofs.Steps.{kept-after, whole-after, edits-give}
 use Rattle.change.proofs.Balance.{balance, adds-fresh, shares-named}
 use Rattle.change.proofs.Released.{released-only, released-always}
 use Rattle.change.proofs.Fits.{lines-rowed, rising, adds-some}
-use Rattle.punch.specs.Punch.{groundOf}
 use Rattle.punch.proofs.Planned.{ground-items}
 use Rattle.apply.specs.Apply.{rowMissing}
 use Rattle.apply.proofs.Adds.{rows-sound, rows-clear, rows-apart, each-sound, two-apart}

@@ -22,11 +22,12 @@ use Rattle.request.specs.declared.File.{File}
 use Rattle.request.specs.declared.Range.{Range}
 use Rattle.plan.specs.Plans.{Plan}
 use Rattle.change.specs.Rounding.{roundDown, roundUp}
-use Rattle.change.specs.Rewrites.{Ground, Rewrite, itemsHeld}
+use Rattle.change.specs.declared.Rewrite.{Rewrite}
+use Rattle.change.specs.Rewrites.{groundOf, Ground, itemsHeld}
 use Rattle.change.specs.Changes.{Change}
 use Rattle.change.proofs.Fair.{Sound, Fair, rewriteInside}
 use Rattle.change.proofs.Rounding.{whole-next, down-below, down-near, down-whole, down-last, down-rises, up-above, up-whole, up-self, up-limit, sector-limit}
-use Rattle.punch.specs.Punch.{firstHeld, startIn, heldBy, punchChange, changeFrom, planPunch, groundOf, Part}
+use Rattle.punch.specs.Punch.{firstHeld, startIn, heldBy, punchChange, changeFrom, planPunch, Part}
 use Rattle.punch.proofs.Planned.{Planned, records-ranged, ground-items, ground-sound}
 use Rattle.punch.proofs.Starts.{holding, hold, holder-some, some-holder, First, first-some, first-past, first-least, first-holds, first-whole}
 use Rattle.punch.proofs.Shapes.{Rewritten, Drawn, drawn}

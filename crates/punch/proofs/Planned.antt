@@ -26,10 +26,10 @@ use Rattle.plan.specs.Places.{placesSound}
 use Rattle.plan.specs.Outputs.{Rooms}
 use Rattle.plan.proofs.Outcomes.{refusedOr-plan, orNothing-plan, plan-same}
 use Rattle.change.specs.Preallocs.{pieceLimit}
-use Rattle.change.specs.Rewrites.{itemsHeld}
+use Rattle.change.specs.Rewrites.{groundOf, itemsHeld}
 use Rattle.change.specs.Changes.{Change, changeRefusal, changed, wanted, planOf}
 use Rattle.change.proofs.Fair.{Sound}
-use Rattle.punch.specs.Punch.{planPunch, rangeRefusal, groundOf, punch}
+use Rattle.punch.specs.Punch.{planPunch, rangeRefusal, punch}
 
 -- records that pass 7, 8 and 9 are of kind 1 or 2
 pub records-ranged : (fs : List Fields) → stage recordRefusal fs ≡ 0 → every ranged fs ≡ true

@@ -15,7 +15,7 @@ use Rattle.records.proofs.Tests.{both-left, both-right}
 use Rattle.item.specs.Items.{Fields}
 use Rattle.cut.specs.Mappings.{holder}
 use Rattle.change.specs.Rounding.{roundDown, roundUp}
-use Rattle.change.specs.Rewrites.{Rewrite}
+use Rattle.change.specs.declared.Rewrite.{Rewrite}
 use Rattle.change.specs.Changes.{Change}
 use Rattle.change.proofs.Rounding.{whole-next, down-below, down-near, down-whole, down-last, down-rises, up-above, up-whole, up-first}
 use Rattle.punch.specs.Punch.{heldBy, inOneSector, firstPart, lastPart, withinSector, acrossSectors, punchChange, Part}

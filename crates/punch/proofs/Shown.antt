@@ -23,13 +23,14 @@ use Rattle.request.proofs.Stages.{sector-some}
 use Rattle.plan.specs.Plans.{Plan}
 use Rattle.change.specs.Rounding.{roundDown, roundUp}
 use Rattle.change.specs.Preallocs.{pieceLimit}
-use Rattle.change.specs.Rewrites.{Ground, Rewrite, itemsHeld}
+use Rattle.change.specs.declared.Rewrite.{Rewrite}
+use Rattle.change.specs.Rewrites.{groundOf, Ground, itemsHeld}
 use Rattle.change.specs.Changes.{Change, piecesAfter}
 use Rattle.change.proofs.Preallocs.{limit-whole}
 use Rattle.change.proofs.Fair.{Sound}
 use Rattle.change.proofs.Rounding.{whole-next, down-below, down-near, down-whole, down-last, up-above, up-whole, up-first}
 use Rattle.change.proofs.Shown.{onSector, lies-off, mapping-outside, mapping-inside}
-use Rattle.punch.specs.Punch.{inOneSector, firstPart, lastPart, withinSector, acrossSectors, groundOf, Punched, Part}
+use Rattle.punch.specs.Punch.{inOneSector, firstPart, lastPart, withinSector, acrossSectors, Punched, Part}
 use Rattle.punch.proofs.Planned.{Planned, ground-items}
 use Rattle.punch.proofs.Starts.{first-past}
 use Rattle.punch.proofs.Shapes.{sector-of}

@@ -14,10 +14,11 @@ use Rattle.cut.specs.Mappings.{mapping}
 use Rattle.cut.specs.Pieces.{itemsOf}
 use Rattle.plan.specs.Plans.{Plan, Write}
 use Rattle.change.specs.Preallocs.{pieceLimit}
-use Rattle.change.specs.Rewrites.{Ground, Rewrite}
+use Rattle.change.specs.declared.Rewrite.{Rewrite}
+use Rattle.change.specs.Rewrites.{groundOf, Ground}
 use Rattle.change.specs.Changes.{piecesAfter, planOf}
 use Rattle.change.proofs.Writes.{write-once as once, rewrite-written, write-rewrite}
-use Rattle.punch.specs.Punch.{groundOf, Part, zeroes, PartsZeroed}
+use Rattle.punch.specs.Punch.{Part, zeroes, PartsZeroed}
 use Rattle.punch.proofs.Planned.{Planned, ground-items}
 use Rattle.punch.proofs.Shapes.{Rewritten}
 use Rattle.punch.proofs.Shown.{others-kept}

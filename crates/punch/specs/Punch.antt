@@ -18,12 +18,12 @@ use Rattle.request.specs.declared.Range.{Range}
 use Rattle.request.specs.Lent.{lentRefusal, listBroken, tableBroken}
 use Rattle.request.specs.Answers.{Outcome}
 use Rattle.cut.specs.Mappings.{Mapping, holder}
-use Rattle.refs.specs.Drops.{held}
 use Rattle.plan.specs.Plans.{Plan, Write, refusedOr, orNothing}
 use Rattle.plan.specs.Outputs.{Rooms}
 use Rattle.change.specs.Rounding.{roundDown, roundUp}
 use Rattle.change.specs.Preallocs.{pieceLimit}
-use Rattle.change.specs.Rewrites.{Ground, Rewrite}
+use Rattle.change.specs.declared.Rewrite.{Rewrite}
+use Rattle.change.specs.Rewrites.{groundOf}
 use Rattle.change.specs.Changes.{Change, changed}
 
 -- "the start is the first offset in the range held by an item that is no hole": the least of those at or past an offset
@@ -96,10 +96,6 @@ rangeRefusal v f r fs shared rs =
     ∷ unless (ltb (r .offset + r .length) (2 ^ 63)) 6
     ∷ stage recordRefusal fs
     ∷ [])
-
-abbrev pub groundOf : Volume → File → List Fields → (shared : List ℕ) → List Row → Ground
-groundOf v f fs shared rs =
-    record { sector = v .sector; generation = v .generation; snapshot = v .snapshot; nodatacow = f .nodatacow; file = f .number; held = held fs shared; rows = rs }
 
 -- a punch: a plan, nothing, or one refusal, from all that is lent
 unfoldable pub punch : Volume → File → Range → List Fields → (shared : List ℕ) → List Row → (places : List ℕ) → Rooms → Outcome Plan

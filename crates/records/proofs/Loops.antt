@@ -1,12 +1,14 @@
 -- One law of loops over the records of a list. Assumes nothing.
 use mathlib.Core.Path.{_≡_, refl, ap, _∙_, sym}
+use mathlib.Core.Bool.{Bool, cond}
 use mathlib.Core.List.{List, [], _∷_}
 use Prim.Native.Nat.{ℕ, zero, suc, _+_, _-_, _*_, _/_, _<_, _≤_}
 use native.Mathlib.Omega.{arith}
-use native.Mathlib.Nat.{add-zero, add-comm, suc-mul, sub-zero, add-mul, one-mul, zero-mul, mul-one}
+use native.Mathlib.Nat.{add-zero, add-comm, add-assoc, suc-mul, sub-zero, add-mul, one-mul, zero-mul, mul-one}
 use lib.ListN.{length, getD, drop}
 use lib.Seq.{drop-drop, getD-drop}
 use Rattle.records.specs.Records.{chunks, records}
+use Rattle.records.specs.Select.{count}
 use Rattle.records.specs.Stages.{first, stage, sieve}
 use Rattle.records.proofs.Tests.{first-stop, first-go}
 
@@ -77,6 +79,21 @@ module _ {A : Type 0} (d : List ℕ → A) (w : ℕ) where
   pub sieve-done : {S : Type 0} (f : S → A → ℕ) (g : S → A → S) (s : List ℕ) (n i : ℕ) (a : S) → n ≤ i → 0 ≡ sieve f g a (rest s n i)
   unfolding sieve
   sieve-done f g s n i a h = rw (rest-nil s n i h) refl
+
+  -- a turn of a loop that counts, and its end
+  pub count-turn :
+      (p : A → Bool) (s : List ℕ) (n i : ℕ) (r : A) (b : Bool) (k m : ℕ)
+      → i < n
+      → r ≡ d (drop (i * w) s)
+      → b ≡ p r
+      → m ≡ k + cond b 1 0
+      → m + count p (rest s n (i + 1)) ≡ k + count p (rest s n i)
+  unfolding count
+  count-turn p s n i r b k m h e q z = rw (z, rest-cons s n i h, ← e, ← q) (add-assoc k _ _)
+
+  pub count-done : (p : A → Bool) (s : List ℕ) (n i k : ℕ) → n ≤ i → k ≡ k + count p (rest s n i)
+  unfolding count
+  count-done p s n i k h = rw (rest-nil s n i h) (sym (add-zero k))
 
 -- ---- a list of plain numbers: records of width 1
 

@@ -1,8 +1,8 @@
 // Tests and refusal stages in code, and (specs/, proofs/) records of one width with the laws of loops over them.
 // A test written with these functions is one expression without branches, so its proof is found unasked.
 ghost use mathlib.Core.Path.{_≡_};
-ghost use mathlib.Core.Bool.{_&&_, _||_};
-ghost use Prim.Native.Nat.{_+_, _^_};
+ghost use mathlib.Core.Bool.{_&&_, _||_, cond};
+ghost use Prim.Native.Nat.{_+_, _^_, _<_};
 ghost use lib.Dec.{eqb, leb, ltb};
 ghost use Rattle.records.specs.Stages.{first, unless};
 
@@ -66,4 +66,12 @@ pub fn first(why: u8, next: u8) -> u8
     ensures { λ r. ⌜ r ≡ first why next ⌝ }
 {
     if why == 0 { next } else { why }
+}
+
+// One more if a test holds.
+pub fn counted(n: usize, b: bool) -> usize
+    requires { ⌜ n + 1 < 2 ^ 64 ⌝ }
+    ensures { λ r. ⌜ r ≡ n + cond b 1 0 ⌝ }
+{
+    if b { n + 1 } else { n }
 }

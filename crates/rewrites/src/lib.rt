@@ -1,0 +1,126 @@
+// Sectors that are rewritten: which item holds one, and the refusals 16, 14, 17 and 18 of writing it in place.
+use change::Rewrite;
+use item::Item;
+use records::both;
+use records::first;
+use records::sum_past;
+use records::unless;
+use request::File;
+use request::Volume;
+use table::Found;
+ghost use mathlib.Core.Bool.{true};
+ghost use mathlib.Core.Path.{_≡_};
+ghost use lib.ListN.{length};
+ghost use Rattle.item.specs.Items.{fields, items};
+ghost use Rattle.cut.specs.Mappings.{holds};
+ghost use Rattle.cut.specs.Refs.{naming};
+ghost use Rattle.refs.specs.Drops.{held};
+ghost use Rattle.table.specs.Rows.{rows, tableKept};
+ghost use Rattle.lists.specs.Lists.{rangeSound};
+ghost use Rattle.change.specs.Rewrites.{holderOf, positionOf, inPlaceWhy, rewriteRefusal};
+ghost use Rattle.change.proofs.Fair.{Sound};
+ghost use Rattle.rewrites.specs.Raw.{heldIn, holderIn, lentGround};
+
+// The item that holds an offset, with its shared byte, if there is one.
+pub struct Holder {
+    pub found: bool,
+    pub item: Item,
+    pub shared: u8,
+}
+
+// Whether an item holds an offset.
+pub fn is_holding(o: u64, item: Item) -> bool
+    ensures { λ r. ⌜ r ≡ holds o (fields item) ⌝ }
+{
+    both(
+        refs::is_named(item),
+        both(item.key <= o, sum_past(item.key, item.length(), o)),
+    )
+}
+
+// The port's `holding_item`.
+pub fn holding_item(o: u64, list: &[u8], shared: &[u8]) -> Holder
+    requires { ⌜ length (now shared) ≡ length (items (now list)) ⌝ }
+    ensures { λ r. ⌜ holderIn r ≡ holderOf o (held (items (now (list .entry))) (now (shared .entry))) ⌝ }
+{
+    let n = list.len() / 70;
+    for i in 0..n {
+        let item = item::item_at(list, i);
+        if is_holding(o, item) {
+            return Holder {
+                found: true,
+                item,
+                shared: shared[i],
+            };
+        }
+    }
+    Holder {
+        found: false,
+        item: Item::regular_extent_item(0, 0, 0, 0, 0),
+        shared: 0,
+    }
+}
+
+// How many items of a list name the extent at `start`.
+pub fn naming(list: &[u8], start: u64) -> usize
+    ensures { λ r. ⌜ r ≡ naming start (items (now (list .entry))) ⌝ }
+{
+    let n = list.len() / 70;
+    let mut k: usize = 0;
+    for i in 0..n {
+        k = records::counted(k, refs::is_naming(start, item::item_at(list, i)));
+    }
+    k
+}
+
+// The position in its extent of a sector that an item holds.
+pub fn position_of(r: Rewrite, h: Holder) -> u64
+    requires { ⌜ (rangeSound (fields (h .item)) ≡ true) × (holds (r .sector) (fields (h .item)) ≡ true) ⌝ }
+    ensures { λ p. ⌜ p ≡ positionOf r (heldIn h) ⌝ }
+{
+    let item = h.item;
+    item.position() + (r.sector - item.key)
+}
+
+// Refusals 14, 17 and 18 of writing a sector in place.
+fn in_place_refusal(v: Volume, r: Rewrite, h: Holder, list: &[u8], table: &[u64]) -> u8
+    requires { ⌜ (rangeSound (fields (h .item)) ≡ true) × (holds (r .sector) (fields (h .item)) ≡ true) × (tableKept (rows (now table)) ≡ true) ⌝ }
+    ensures { λ why. ⌜ why ≡ inPlaceWhy (v .sector) (v .snapshot) (items (now (list .entry))) (rows (now (table .entry))) r (heldIn h) ⌝ }
+{
+    let item = h.item;
+    let start = item.extent_start();
+    let Found::At(_, row) = table::find_row(table, start) else {
+        return 14;
+    };
+    let inside = table::item_window_inside(start, position_of(r, h), v.sector, row.length);
+    let own = row.references == naming(list, start) as u64;
+    first(
+        unless(inside, 17),
+        unless(both(own, both(v.snapshot < row.made, h.shared == 0)), 18),
+    )
+}
+
+// Refusals 16, 14, 17 and 18 of one sector that is rewritten.
+pub fn rewrite_refusal(
+    v: Volume,
+    f: File,
+    r: Rewrite,
+    list: &[u8],
+    shared: &[u8],
+    table: &[u64],
+) -> u8
+    requires { ⌜ Sound (lentGround v f (now list) (now shared) (now table)) × (length (now shared) ≡ length (items (now list))) ⌝ }
+    ensures { λ why. ⌜ why ≡ rewriteRefusal (lentGround v f (now (list .entry)) (now (shared .entry)) (now (table .entry))) r ⌝ }
+{
+    let h = holding_item(r.sector, list, shared);
+    if !h.found {
+        return 0;
+    }
+    let item = h.item;
+    let kind = item.kind();
+    let why = unless(!both(f.nodatacow, kind == 1), 16);
+    if kind != 2 {
+        return why;
+    }
+    first(why, in_place_refusal(v, r, h, list, table))
+}
