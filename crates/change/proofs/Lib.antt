@@ -12,3 +12,4 @@ pub mod Balance
 pub mod Released
 pub mod Fits
 pub mod Examples
+pub mod Drafts

@@ -4,7 +4,7 @@ use mathlib.Core.List.{List, [], _∷_, _++_, map, flatMap}
 use Prim.Native.Nat.{ℕ, _+_, _-_, _^_}
 use lib.Dec.{eqb}
 use Rattle.records.specs.Stages.{unless, firstOf, stage}
-use Rattle.records.specs.Select.{keep, any}
+use Rattle.records.specs.Select.{only, keep, any}
 use Rattle.item.specs.Items.{Fields, hole, regularItem, ofKind}
 use Rattle.table.specs.Rows.{oneMoreReference}
 use Rattle.request.specs.Answers.{Outcome, plan}
@@ -20,6 +20,7 @@ use Rattle.plan.specs.Places.{Wanted, placed, placesSound}
 use Rattle.plan.specs.Outputs.{Rooms, roomFor}
 use Rattle.change.specs.Preallocs.{Span, preallocPieces}
 use Rattle.change.specs.declared.Rewrite.{Rewrite}
+use Rattle.change.specs.declared.RangeChange.{RangeChange}
 use Rattle.change.specs.Rewrites.{Ground, itemsHeld, newGeneration, rewriteRefusal, itemInPlace, writeInPlace, eachInPlace, rewrittenAnew}
 
 -- a change of a range: what is cut, [lo, hi), the sectors rewritten inside it, the holes filled, and the new size
@@ -29,6 +30,17 @@ pub record Change : Type 0 where
   pub rewrites : List Rewrite
   pub holes : List Span
   pub size : ℕ
+
+-- a struct of the code as such a change: no holes
+abbrev pub changeOf : RangeChange → ℕ → Change
+changeOf c size =
+    record {
+      lo = c .lo;
+      hi = c .hi;
+      rewrites = only (c .«has_front») (c .front) ++ only (c .«has_back») (c .back);
+      holes = [];
+      size = size;
+    }
 
 -- the items over new extents, each at its place
 unfoldable pub newItems : Ground → List ℕ → List Wanted → List Fields

@@ -52,8 +52,11 @@ whenHeld none a f = a
 whenHeld (some h) a f = f h
 
 -- the preallocated item that holds a rewrite's sector, if one does: then it is written in place
+abbrev pub preallocatedIn : List Held → Rewrite → Option Held
+preallocatedIn hs r = whenHeld (holderOf (r .sector) hs) none (λ (h : Held). cond (eqb (h .item .kind) 2) (some h) none)
+
 abbrev pub preallocated : Ground → Rewrite → Option Held
-preallocated g r = whenHeld (holderOf (r .sector) (g .held)) none (λ (h : Held). cond (eqb (h .item .kind) 2) (some h) none)
+preallocated g r = preallocatedIn (g .held) r
 
 abbrev pub inPlace : Ground → Rewrite → Bool
 inPlace g r = whenHeld (preallocated g r) Bool.false (λ (h : Held). Bool.true)

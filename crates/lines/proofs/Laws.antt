@@ -91,7 +91,7 @@ module _ {A : Type 0} (f : A → List ℕ) (w : ℕ) where
     fits : (n : ℕ) (out : List ℕ) → n < length out / w → n * w + w ≤ length out
     fits n out h = rw suc-mul at (le-div-iff-mul-le {x = suc n} pos .0 h)
 
-    length-flat : (l : List A) → length (flatMap f l) ≡ length l * w
+    pub length-flat : (l : List A) → length (flatMap f l) ≡ length l * w
     unfolding flatMap
     length-flat [] = sym (zero-mul w)
     length-flat (a ∷ l) =

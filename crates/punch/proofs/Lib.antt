@@ -5,3 +5,5 @@ pub mod Shapes
 pub mod Fair
 pub mod Shown
 pub mod Writes
+pub mod Starting
+pub mod Sectors

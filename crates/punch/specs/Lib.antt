@@ -1,1 +1,2 @@
 pub mod Punch
+pub mod Raw

@@ -1,1 +1,187 @@
-// The operation follows; its definition is in specs/.
+// A punch: where it starts, which sectors it cuts and rewrites (`plan_punch`). The operation itself follows.
+use change::RangeChange;
+use change::Rewrite;
+use item::Item;
+use records::both;
+use records::sum_past;
+ghost use mathlib.Core.Bool.{true};
+ghost use mathlib.Core.List.{[]};
+ghost use mathlib.Core.Path.{_≡_};
+ghost use Prim.Native.Nat.{_+_, _<_, _^_};
+ghost use lib.ListN.{length};
+ghost use Rattle.item.specs.Items.{fields, items};
+ghost use Rattle.request.specs.Lent.{sectorSound};
+ghost use Rattle.change.specs.Changes.{changeOf};
+ghost use Rattle.punch.specs.Punch.{lower, firstHeld, inOneSector, withinSector, acrossSectors, punchChange, planPunch};
+ghost use Rattle.punch.specs.Raw.{offsetIn, withItem, planIn};
+
+// An offset of the file, if there is one.
+pub struct Start {
+    pub found: bool,
+    pub at: u64,
+}
+
+// The lower of an offset and another.
+fn lower(start: Start, x: u64) -> Start
+    ensures { λ r. ⌜ offsetIn r ≡ lower (offsetIn start) x ⌝ }
+{
+    if both(start.found, start.at <= x) {
+        start
+    } else {
+        Start { found: true, at: x }
+    }
+}
+
+// One more item, before those that `start` was found in.
+fn with_item(start: Start, offset: u64, item: Item) -> Start
+    ensures { λ r. ⌜ offsetIn r ≡ withItem offset (fields item) (offsetIn start) ⌝ }
+{
+    if both(
+        !cut::is_hole(item),
+        sum_past(item.key, item.length(), offset),
+    ) {
+        lower(start, records::larger(item.key, offset))
+    } else {
+        start
+    }
+}
+
+// The first offset at or past `offset` that an item holds which is no hole; from the last record to the first.
+pub fn first_held(list: &[u8], offset: u64) -> Start
+    ensures { λ r. ⌜ offsetIn r ≡ firstHeld offset (items (now (list .entry))) ⌝ }
+{
+    let mut start = Start {
+        found: false,
+        at: 0,
+    };
+    let mut i = list.len() / 70;
+    while 0 < i {
+        i -= 1;
+        start = with_item(start, offset, item::item_at(list, i));
+    }
+    start
+}
+
+// Whether a range lies inside one sector, and is not the whole of it.
+fn in_one_sector(sector: u64, start: u64, stop: u64) -> bool
+    requires { ⌜ (0 < sector) × (start < stop) ⌝ }
+    ensures { λ r. ⌜ r ≡ inOneSector sector start stop ⌝ }
+{
+    both(
+        change::round_down(sector, start) == change::round_down(sector, stop - 1),
+        stop - start < sector,
+    )
+}
+
+// A sector that is not rewritten.
+fn none() -> Rewrite
+    ensures { λ r. ⌜ r ≡ record { sector = 0; first = 0; end = 0 } ⌝ }
+{
+    Rewrite {
+        sector: 0,
+        first: 0,
+        end: 0,
+    }
+}
+
+// What is cut and rewritten of a range inside one sector; the list has no say in it.
+fn within_sector(size: u64, sector: u64, start: u64, stop: u64) -> RangeChange
+    requires { ⌜ (sectorSound sector ≡ true) × (size < 2 ^ 63) × (start < 2 ^ 63) ⌝ }
+    ensures { λ r. ⌜ changeOf r size ≡ withinSector [] size sector start stop ⌝ }
+{
+    let first = change::round_down(sector, start);
+    let below = start < change::round_up(sector, size);
+    RangeChange {
+        lo: first,
+        hi: records::pick(below, first + sector, first),
+        has_front: below,
+        front: Rewrite {
+            sector: first,
+            first: start,
+            end: stop,
+        },
+        has_back: false,
+        back: none(),
+    }
+}
+
+// What is cut and rewritten of any other range.
+fn across_sectors(
+    list: &[u8],
+    shared: &[u8],
+    size: u64,
+    sector: u64,
+    start: u64,
+    stop: u64,
+) -> RangeChange
+    requires { ⌜ (sectorSound sector ≡ true) × (size < 2 ^ 63) × (start < stop) × (stop < 2 ^ 63) × (length (now shared) ≡ length (items (now list))) ⌝ }
+    ensures { λ r. ⌜ changeOf r size ≡ acrossSectors (items (now (list .entry))) size sector start stop ⌝ }
+{
+    let first = change::round_down(sector, start);
+    let last = change::round_down(sector, stop);
+    let limit = change::round_up(sector, size);
+    let held = rewrites::holding_item(last, list, shared).found;
+    let has_front = both(first != start, start < limit);
+    let has_back = both(last != stop, both(stop < limit, held));
+    RangeChange {
+        lo: records::pick(has_front, first, change::round_up(sector, start)),
+        hi: records::pick(has_back, last + sector, last),
+        has_front,
+        front: Rewrite {
+            sector: first,
+            first: start,
+            end: first + sector,
+        },
+        has_back,
+        back: Rewrite {
+            sector: last,
+            first: last,
+            end: stop,
+        },
+    }
+}
+
+// What a punch from `start`, the first offset that an item holds, cuts and rewrites.
+fn sectors_of(
+    list: &[u8],
+    shared: &[u8],
+    size: u64,
+    sector: u64,
+    start: u64,
+    stop: u64,
+) -> RangeChange
+    requires { ⌜ (sectorSound sector ≡ true) × (size < 2 ^ 63) × (start < stop) × (stop < 2 ^ 63) × (length (now shared) ≡ length (items (now list))) ⌝ }
+    ensures { λ r. ⌜ changeOf r size ≡ punchChange (items (now (list .entry))) size sector start stop ⌝ }
+{
+    if in_one_sector(sector, start, stop) {
+        within_sector(size, sector, start, stop)
+    } else {
+        across_sectors(list, shared, size, sector, start, stop)
+    }
+}
+
+// What a punch sets out to do: a change of its range, or nothing.
+pub enum PunchPlan {
+    Change(RangeChange),
+    Nothing,
+}
+
+// The port's `plan_punch`: from the first offset in the range that an item holds, if there is one.
+pub fn plan_punch(
+    list: &[u8],
+    shared: &[u8],
+    size: u64,
+    sector: u64,
+    offset: u64,
+    stop: u64,
+) -> PunchPlan
+    requires { ⌜ (sectorSound sector ≡ true) × (size < 2 ^ 63) × (stop < 2 ^ 63) × (length (now shared) ≡ length (items (now list))) ⌝ }
+    ensures { λ r. ⌜ planIn r size ≡ planPunch (items (now (list .entry))) size sector offset stop ⌝ }
+{
+    let start = first_held(list, offset);
+    if both(start.found, start.at < stop) {
+        PunchPlan::Change(sectors_of(list, shared, size, sector, start.at, stop))
+    } else {
+        PunchPlan::Nothing
+    }
+}

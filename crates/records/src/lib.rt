@@ -2,7 +2,7 @@
 // A test written with these functions is one expression without branches, so its proof is found unasked.
 ghost use mathlib.Core.Path.{_≡_};
 ghost use mathlib.Core.Bool.{_&&_, _||_, cond};
-ghost use Prim.Native.Nat.{_+_, _^_, _<_};
+ghost use Prim.Native.Nat.{_+_, _^_, _<_, max};
 ghost use lib.Dec.{eqb, leb, ltb};
 ghost use Rattle.records.specs.Stages.{first, unless};
 
@@ -74,4 +74,18 @@ pub fn counted(n: usize, b: bool) -> usize
     ensures { λ r. ⌜ r ≡ n + cond b 1 0 ⌝ }
 {
     if b { n + 1 } else { n }
+}
+
+// The larger of two numbers.
+pub fn larger(a: u64, b: u64) -> u64
+    ensures { λ r. ⌜ r ≡ max a b ⌝ }
+{
+    if a < b { b } else { a }
+}
+
+// One of two numbers, by a test.
+pub fn pick(b: bool, x: u64, y: u64) -> u64
+    ensures { λ r. ⌜ r ≡ cond b x y ⌝ }
+{
+    if b { x } else { y }
 }

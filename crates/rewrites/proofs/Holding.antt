@@ -1,19 +1,21 @@
 -- A loop that looks for the item that holds an offset. Assumes nothing.
 use mathlib.Core.Path.{_≡_, refl, ap, _∙_, sym}
-use mathlib.Core.Bool.{Bool, true, false, cond}
+use mathlib.Core.Bool.{Bool, true, false, cond, _&&_}
 use mathlib.Core.List.{List, [], _∷_}
 use mathlib.Core.Option.{Option, none, some}
 use Prim.Native.Nat.{ℕ, _+_, _*_, _/_, _<_, _≤_}
 use native.Mathlib.Omega.{arith}
 use native.Mathlib.Numerals.{add-one}
+use lib.Dec.{eqb}
 use lib.ListN.{length, getD, drop}
 use lib.Seq.{drop-cons}
 use Rattle.records.proofs.Loops.{rest, rest-cons, rest-nil}
-use Rattle.item.specs.Items.{Fields, decode, items}
+use Rattle.item.specs.Items.{Fields, fields, decode, items}
 use Rattle.item.proofs.Laws.{rest-items}
 use Rattle.cut.specs.Mappings.{holds}
 use Rattle.refs.specs.Drops.{Held, held}
-use Rattle.change.specs.Rewrites.{holderOf}
+use Rattle.change.specs.declared.Rewrite.{Rewrite}
+use Rattle.change.specs.Rewrites.{holderOf, whenHeld, preallocatedIn}
 use Rattle.rewrites.specs.declared.Holder.{Holder}
 use Rattle.rewrites.specs.Raw.{heldIn, holderIn}
 
@@ -53,3 +55,21 @@ found-some h x e t = rw t at e
 
 pub found-none : (h : Holder) (x : Option Held) → holderIn h ≡ x → h .found ≡ false → none ≡ x
 found-none h x e t = rw t at e
+
+-- the preallocated one of it, where the sector is rewritten
+pub found-preallocated :
+    (has : Bool) (r : Rewrite) (hs : List Held) (h : Holder) (k : ℕ) (two b : Bool)
+    → holderIn h ≡ holderOf (r .sector) hs
+    → k ≡ fields (h .item) .kind
+    → two ≡ (h .found && eqb k 2)
+    → b ≡ (has && two)
+    → cond b (some (heldIn h)) none ≡ cond has (preallocatedIn hs r) none
+found-preallocated has r hs h k two b e pk pt pb =
+    let q : preallocatedIn hs r ≡ whenHeld (holderIn h) none (λ (x : Held). cond (eqb (x .item .kind) 2) (some x) none) = rw (← e) refl in
+    rw (pb, pt, pk, q) (go has (h .found) (eqb (fields (h .item) .kind) 2) refl)
+  where
+    go : (has found two : Bool) → eqb (fields (h .item) .kind) 2 ≡ two
+        → cond (has && (found && two)) (some (heldIn h)) none ≡ cond has (whenHeld (cond found (some (heldIn h)) none) none (λ (x : Held). cond (eqb (x .item .kind) 2) (some x) none)) none
+    go true true two p = rw p refl
+    go true false two p = refl
+    go false found two p = refl

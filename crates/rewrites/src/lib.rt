@@ -8,16 +8,21 @@ use records::unless;
 use request::File;
 use request::Volume;
 use table::Found;
-ghost use mathlib.Core.Bool.{true};
+ghost use mathlib.Core.Bool.{true, cond};
+ghost use mathlib.Core.Option.{none};
 ghost use mathlib.Core.Path.{_≡_};
+ghost use Prim.Native.Nat.{_+_, _<_, _^_};
 ghost use lib.ListN.{length};
-ghost use Rattle.item.specs.Items.{fields, items};
+ghost use Rattle.records.specs.Select.{only};
+ghost use Rattle.item.specs.Items.{fields, items, writtenInPlace};
 ghost use Rattle.cut.specs.Mappings.{holds};
 ghost use Rattle.cut.specs.Refs.{naming};
 ghost use Rattle.refs.specs.Drops.{held};
+ghost use Rattle.plan.specs.Outputs.{writeNumbers};
+ghost use Rattle.lines.specs.Lines.{Laid};
 ghost use Rattle.table.specs.Rows.{rows, tableKept};
 ghost use Rattle.lists.specs.Lists.{rangeSound};
-ghost use Rattle.change.specs.Rewrites.{holderOf, positionOf, inPlaceWhy, rewriteRefusal};
+ghost use Rattle.change.specs.Rewrites.{holderOf, preallocatedIn, positionOf, writeInPlace, inPlaceWhy, rewriteRefusal};
 ghost use Rattle.change.proofs.Fair.{Sound};
 ghost use Rattle.rewrites.specs.Raw.{heldIn, holderIn, lentGround};
 
@@ -123,4 +128,48 @@ pub fn rewrite_refusal(
         return why;
     }
     first(why, in_place_refusal(v, r, h, list, table))
+}
+
+// The preallocated item that holds a sector, if there is one and the sector is to be rewritten: it is then written in place.
+pub fn preallocated(has: bool, r: Rewrite, list: &[u8], shared: &[u8]) -> Holder
+    requires { ⌜ length (now shared) ≡ length (items (now list)) ⌝ }
+    ensures { λ h. ⌜ holderIn h ≡ cond has (preallocatedIn (held (items (now (list .entry))) (now (shared .entry))) r) none ⌝ }
+{
+    let h = holding_item(r.sector, list, shared);
+    let item = h.item;
+    Holder {
+        found: both(has, both(h.found, item.kind() == 2)),
+        item,
+        shared: h.shared,
+    }
+}
+
+// The extent of a sector that is written in place; 0 if it is not.
+pub fn extent_in_place(h: Holder) -> u64
+    ensures { λ s. ⌜ s ≡ cond (h .found) (fields (h .item) .extentStart) 0 ⌝ }
+{
+    let item = h.item;
+    records::pick(h.found, item.extent_start(), 0)
+}
+
+// The item over a sector that is written in place.
+pub fn item_in_place(v: Volume, r: Rewrite, h: Holder) -> Item
+    requires { ⌜ (rangeSound (fields (h .item)) ≡ true) × (holds (r .sector) (fields (h .item)) ≡ true) × (v .generation + 1 < 2 ^ 64) ⌝ }
+    ensures { λ i. ⌜ fields i ≡ writtenInPlace (fields (h .item)) (r .sector) (v .generation + 1) (positionOf r (heldIn h)) (v .sector) ⌝ }
+{
+    let item = h.item;
+    item.written_in_place(r.sector, v.generation + 1, position_of(r, h), v.sector)
+}
+
+// The write of a sector in place, if it is one, as line n.
+pub fn put_in_place(r: Rewrite, h: Holder, out: &mut [u64], n: usize) -> usize
+    requires { ⌜ (h .found ≡ true → (rangeSound (fields (h .item)) ≡ true) × (holds (r .sector) (fields (h .item)) ≡ true) × (fields (h .item) .extentStart + positionOf r (heldIn h) < 2 ^ 64)) × (n + 1 < 2 ^ 64) ⌝ }
+    ensures { λ m. ⌜ Laid writeNumbers 4 n (only (h .found) (writeInPlace r (heldIn h))) (now (out .entry)) m (now (out .exit)) ⌝ }
+{
+    if !h.found {
+        return n;
+    }
+    let item = h.item;
+    let at = item.extent_start() + position_of(r, h);
+    lines::put_write(out, n, r.sector, at, r.first, r.end)
 }

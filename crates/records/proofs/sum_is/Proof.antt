@@ -1,5 +1,4 @@
-use mathlib.Core.Path.{_≡_, sym, refl}
-use mathlib.Core.Bool.{true}
+use mathlib.Core.Path.{sym}
 use Prim.Native.Nat.{_+_, _-_}
 use native.Mathlib.Omega.{arith}
 use lib.Dec.{eqb}

@@ -1,22 +1,16 @@
-use Rattle.item.specs.Items.{fields}
 use denote.Ref.{now}
 use mathlib.Core.Path.{refl}
 use Rattle.rewrites.proofs.Holding.{left, left-all, holder-stop, holder-turn, holder-done}
 use Rattle.change.specs.Rewrites.{holderOf}
 use Rattle.refs.specs.Drops.{held}
 use Rattle.item.proofs.Laws.{item-decode, items-length}
-use Rattle.item.specs.Items.{decode, items}
+use Rattle.item.specs.Items.{items}
 use borrow.Author.Needs.{needs}
-use Prim.Native.Nat.{_-_, _≤_, _+_}
-use mathlib.Core.Path.{_≡_, _∙_, sym}
+use Prim.Native.Nat.{_-_, _≤_}
+use mathlib.Core.Path.{_≡_, _∙_}
 use native.Mathlib.Omega.{arith}
 use Rattle.rewrites.proofs.holding_item.Statement.{statement}
 use Rattle.rewrites.proofs.holding_item.Tie as tie
-use Rattle.rewrites.proofs.holding_item.Reads as reads
-use Rattle.rewrites.proofs.holding_item.Lts as lts
-use Rattle.item.proofs.Item.regular_extent_item.Reads as regular-extent-item-reads
-use Rattle.item.proofs.item_at.Reads as item-at-reads
-use Rattle.rewrites.proofs.is_holding.Reads as is-holding-reads
 
 abbrev Inv-loop : tie.InvT-loop
 Inv-loop o list shared n i₀ i = (i ≤ n) × (holderOf o (left list shared n i) ≡ holderOf o (held (items list) shared))
@@ -24,43 +18,33 @@ Inv-loop o list shared n i₀ i = (i ≤ n) × (holderOf o (left list shared n i
 abbrev μ-loop : tie.MeasureT-loop
 μ-loop o list shared n i₀ i = n - i
 
--- src/lib.rt:38:5
 loop-holds : tie.Need-loop-holds Inv-loop μ-loop
 loop-holds c = (omega arith, rw left-all refl)
 
--- src/lib.rt:39:13
 item-at-requires : tie.Need-item-at-requires Inv-loop μ-loop
 item-at-requires c κs = omega arith
 
--- src/lib.rt:40:12
 is-holding-requires : tie.Need-is-holding-requires Inv-loop μ-loop
 is-holding-requires c κs = search needs
 
--- src/lib.rt:44:25
 shared-slice-read-t11 : tie.Need-shared-slice-read-t11 Inv-loop μ-loop
 shared-slice-read-t11 c = let a = c  .before .before .before .before .before .before .before .before .args in omega (arith, items-length (now (a .list)))
 
--- src/lib.rt:41:13
 returns : tie.Need-returns Inv-loop μ-loop
 returns c = let a = c  .before .before .before .before .before .before .before .before .args in holder-stop (a .o) (now (a .list)) (now (a .shared)) _ _ _ _ (omega arith) (omega (arith, items-length (now (a .list)))) (item-decode _ _ (c  .before .before .before .item-at .ensures)) (c  .before .before .is-holding .ensures) (c  .before .if1 .taken) ∙ c  .before .before .before .before .before .loop .inv .1
 
--- src/lib.rt:38:9
 add-i : tie.Need-add-i Inv-loop μ-loop
 add-i c = omega arith
 
--- src/lib.rt:38:5
 loop-less : tie.Need-loop-less Inv-loop μ-loop
 loop-less c = omega arith
 
--- src/lib.rt:38:5
 loop-again : tie.Need-loop-again Inv-loop μ-loop
 loop-again c = let a = c  .before .before .before .before .before .before .before .args in (omega arith, holder-turn (a .o) (now (a .list)) (now (a .shared)) _ _ _ _ (omega arith) (omega (arith, items-length (now (a .list)))) (item-decode _ _ (c  .before .before .item-at .ensures)) (c  .before .is-holding .ensures) (c .if1 .left) ∙ c  .before .before .before .before .loop .inv .1)
 
--- src/lib.rt:50:15
 regular-extent-item-requires : tie.Need-regular-extent-item-requires Inv-loop μ-loop
 regular-extent-item-requires c κs = search needs
 
--- src/lib.rt:33:1
 returns-2 : tie.Need-returns-2 Inv-loop μ-loop
 returns-2 c = let a = c  .before .before .before .before .before .args in holder-done (a .o) (now (a .list)) (now (a .shared)) _ _ (c  .before .loop-test .left) ∙ c  .before .before .loop .inv .1
 

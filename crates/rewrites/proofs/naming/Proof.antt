@@ -9,15 +9,10 @@ use Rattle.records.specs.Select.{count}
 use denote.Ref.{now}
 use borrow.Author.Needs.{needs}
 use Prim.Native.Nat.{_-_, _≤_, _+_}
-use mathlib.Core.Path.{_≡_, _∙_, sym}
+use mathlib.Core.Path.{_≡_, _∙_}
 use native.Mathlib.Omega.{arith}
 use Rattle.rewrites.proofs.naming.Statement.{statement}
 use Rattle.rewrites.proofs.naming.Tie as tie
-use Rattle.rewrites.proofs.naming.Reads as reads
-use Rattle.rewrites.proofs.naming.Lts as lts
-use Rattle.item.proofs.item_at.Reads as item-at-reads
-use Rattle.records.proofs.counted.Reads as counted-reads
-use Rattle.refs.proofs.is_naming.Reads as is-naming-reads
 
 abbrev Inv-loop : tie.InvT-loop
 Inv-loop list start n k₀ i₀ k i = (i ≤ n) × (k + count (names start) (rest decode 70 list n i) ≡ naming start (items list))
@@ -25,35 +20,27 @@ Inv-loop list start n k₀ i₀ k i = (i ≤ n) × (k + count (names start) (res
 abbrev μ-loop : tie.MeasureT-loop
 μ-loop list start n k₀ i₀ k i = n - i
 
--- src/lib.rt:61:5
 loop-holds : tie.Need-loop-holds Inv-loop μ-loop
 loop-holds c = (omega arith, rw (rest-items, zero-add) refl)
 
--- src/lib.rt:62:56
 item-at-requires : tie.Need-item-at-requires Inv-loop μ-loop
 item-at-requires c κs = omega arith
 
--- src/lib.rt:62:33
 is-naming-requires : tie.Need-is-naming-requires Inv-loop μ-loop
 is-naming-requires c κs = search needs
 
--- src/lib.rt:62:9
 counted-requires : tie.Need-counted-requires Inv-loop μ-loop
 counted-requires c κs = let l = c  .before .before .before .loop in let s = now (c  .before .before .before .before .before .args .list) in omega (arith, l .inv .1, count-length (names (c  .before .before .before .before .before .args .start)) (items s), items-length s)
 
--- src/lib.rt:61:9
 add-i : tie.Need-add-i Inv-loop μ-loop
 add-i c = omega arith
 
--- src/lib.rt:61:5
 loop-less : tie.Need-loop-less Inv-loop μ-loop
 loop-less c = omega arith
 
--- src/lib.rt:61:5
 loop-again : tie.Need-loop-again Inv-loop μ-loop
 loop-again c = (omega arith, count-turn decode 70 (names _) _ _ _ _ _ _ _ (omega arith) (item-decode _ _ (c  .before .before .item-at .ensures)) (c  .before .is-naming .ensures) (c .counted .ensures) ∙ c  .before .before .before .before .loop .inv .1)
 
--- src/lib.rt:56:1
 returns : tie.Need-returns Inv-loop μ-loop
 returns c = count-done decode 70 (names _) _ _ _ _ (c .loop-test .left) ∙ c  .before .loop .inv .1
 

@@ -13,48 +13,31 @@ use mathlib.Core.Path.{_∙_, sym, ap}
 use borrow.Author.Needs.{needs}
 use Rattle.rewrites.proofs.rewrite_refusal.Statement.{statement}
 use Rattle.rewrites.proofs.rewrite_refusal.Tie as tie
-use Rattle.rewrites.proofs.rewrite_refusal.Reads as reads
-use Rattle.rewrites.proofs.rewrite_refusal.Lts as lts
-use Rattle.item.proofs.Item.kind.Reads as kind-reads
-use Rattle.records.proofs.both.Reads as both-reads
-use Rattle.records.proofs.first.Reads as first-reads
-use Rattle.records.proofs.unless.Reads as unless-reads
-use Rattle.rewrites.proofs.holding_item.Reads as holding-item-reads
-use Rattle.rewrites.proofs.in_place_refusal.Reads as in-place-refusal-reads
 
--- src/lib.rt:115:9
 holding-item-requires : tie.Need-holding-item-requires
 holding-item-requires c κs = search needs
 
--- src/lib.rt:117:9
 returns : tie.Need-returns
 returns c = let a = c  .before .before .before .before .before .before .args in rewrite-none (lentGround (a .v) (a .f) (now (a .list)) (now (a .shared)) (now (a .table))) (a .r) (found-none (c  .before .before .holding-item .result) _ (c  .before .before .holding-item .ensures) (not-true _ (c .if1 .taken)))
 
--- src/lib.rt:120:9
 kind-requires : tie.Need-kind-requires
 kind-requires c κs = search needs
 
--- src/lib.rt:121:23
 both-requires : tie.Need-both-requires
 both-requires c κs = search needs
 
--- src/lib.rt:121:9
 unless-requires : tie.Need-unless-requires
 unless-requires c κs = search needs
 
--- src/lib.rt:123:9
 returns-2 : tie.Need-returns-2
 returns-2 c = let a = c  .before .before .before .before .before .before .before .before .before .before .before .args in rewrite-anew (lentGround (a .v) (a .f) (now (a .list)) (now (a .shared)) (now (a .table))) (a .r) (heldIn (c  .before .before .before .before .before .before .before .holding-item .result)) _ _ _ (found-some (c  .before .before .before .before .before .before .before .holding-item .result) _ (c  .before .before .before .before .before .before .before .holding-item .ensures) (not-false _ (c  .before .before .before .before .before .if1 .left))) (c  .before .before .before .kind .ensures) (c  .before .before .both .ensures) (c  .before .unless .ensures) (ne-eqb _ _ (c .if2 .taken))
 
--- src/lib.rt:125:16
 in-place-refusal-requires : tie.Need-in-place-refusal-requires
 in-place-refusal-requires c κs = let a = c  .before .before .before .before .before .before .before .before .before .before .before .args in let p = c  .before .before .before .before .before .before .before .before .before .before .before .pre in let h = c  .before .before .before .before .before .before .before .holding-item .result in let s = holder-sound (lentGround (a .v) (a .f) (now (a .list)) (now (a .shared)) (now (a .table))) (a .r .sector) (heldIn h) (p .0) (found-some h _ (c  .before .before .before .before .before .before .before .holding-item .ensures) (not-false _ (c  .before .before .before .before .before .if1 .left))) in (s .0, s .1, p .0 .table)
 
--- src/lib.rt:125:5
 first-requires : tie.Need-first-requires
 first-requires c κs = search needs
 
--- src/lib.rt:104:1
 returns-3 : tie.Need-returns-3
 returns-3 c = let a = c  .before .before .before .before .before .before .before .before .before .before .before .before .before .args in rewrite-in-place (lentGround (a .v) (a .f) (now (a .list)) (now (a .shared)) (now (a .table))) (a .r) (heldIn (c  .before .before .before .before .before .before .before .before .before .holding-item .result)) _ _ _ _ _ (found-some (c  .before .before .before .before .before .before .before .before .before .holding-item .result) _ (c  .before .before .before .before .before .before .before .before .before .holding-item .ensures) (not-false _ (c  .before .before .before .before .before .before .before .if1 .left))) (c  .before .before .before .before .before .kind .ensures) (c  .before .before .before .before .both .ensures) (c  .before .before .before .unless .ensures) (eq-eqb _ _ (c  .before .before .if2 .left)) (c .before .in-place-refusal .ensures ∙ ap (λ (fs : List Fields). inPlaceWhy (a .v .sector) (a .v .snapshot) fs (rows (now (a .table))) (a .r) (heldIn (c .before .before .before .before .before .before .before .before .before .holding-item .result))) (sym (held-items (items (now (a .list))) (now (a .shared)) (c .before .before .before .before .before .before .before .before .before .before .before .before .before .pre .1)))) (c .first .ensures)
 

@@ -1,0 +1,132 @@
+-- A change's lists by its two sectors: which are written in place, and which take a new extent. Assumes nothing.
+use mathlib.Core.Path.{_≡_, refl, ap, ap₂, _∙_, sym}
+use mathlib.Core.Bool.{Bool, true, false, cond, _&&_, not}
+use mathlib.Core.List.{List, [], _∷_, _++_, map, flatMap, append-nil, append-assoc}
+use mathlib.Core.Option.{Option, none, some}
+use Prim.Native.Nat.{ℕ, _≤_}
+use native.Mathlib.Omega.{arith}
+use lib.Dec.{eqb}
+use lib.ListN.{length, length-append}
+use Rattle.records.specs.Select.{only, keep, any}
+use Rattle.item.specs.Items.{Fields, fields, regularItem, hole}
+use Rattle.refs.specs.Drops.{Held}
+use Rattle.plan.specs.Plans.{Add, Write}
+use Rattle.plan.specs.Places.{Wanted, placed}
+use Rattle.change.specs.declared.Rewrite.{Rewrite}
+use Rattle.change.specs.declared.RangeChange.{RangeChange}
+use Rattle.change.specs.Rewrites.{Ground, newGeneration, whenHeld, preallocated, inPlace, eachInPlace, rewrittenAnew}
+use Rattle.change.specs.Changes.{Change, changeOf, newItems, writesAnew, wanted, extentsInPlace}
+use Rattle.rewrites.specs.declared.Holder.{Holder}
+use Rattle.rewrites.specs.Raw.{heldIn, holderIn}
+use Rattle.changing.specs.declared.Parts.{Parts}
+use Rattle.changing.specs.Raw.{Parting}
+use Rattle.changing.specs.Sides.{frontNew, backNew, sides, wantedAt, newAt, addOf, writeAt}
+
+keep-append : {A : Type 0} (p : A → Bool) (l m : List A) → keep p (l ++ m) ≡ keep p l ++ keep p m
+unfolding keep
+keep-append p [] m = refl
+keep-append {A} p (a ∷ l) m = go (p a) (keep-append p l m)
+  where
+    go : (b : Bool) → keep p (l ++ m) ≡ keep p l ++ keep p m → cond b (a ∷ keep p (l ++ m)) (keep p (l ++ m)) ≡ cond b (a ∷ keep p l) (keep p l) ++ keep p m
+    go true e = ap (λ (k : List A). a ∷ k) e
+    go false e = e
+
+-- ---- one sector
+
+module _ (g : Ground) (has : Bool) (r : Rewrite) (h : Holder) (e : holderIn h ≡ cond has (preallocated g r) none) where
+  pub each-one : {A : Type 0} (f : Rewrite → Held → A) → eachInPlace g f (only has r) ≡ only (h .found) (f r (heldIn h))
+  unfolding eachInPlace flatMap
+  each-one {A} f = go has (h .found) e
+    where
+      go : (has found : Bool) → cond found (some (heldIn h)) none ≡ cond has (preallocated g r) none
+          → flatMap (λ (r : Rewrite). whenHeld (preallocated g r) [] (λ (h : Held). f r h ∷ [])) (only has r) ≡ only found (f r (heldIn h))
+      go true true z = rw (← z) refl
+      go true false z = rw (← z) refl
+      go false true z = let n : _≡_ {A = ℕ} 0 1 = cc in absurd (omega arith)
+      go false false z = refl
+
+  pub anew-one : rewrittenAnew g (only has r) ≡ only (has && not (h .found)) r
+  unfolding keep
+  anew-one = go has (h .found) e
+    where
+      go : (has found : Bool) → cond found (some (heldIn h)) none ≡ cond has (preallocated g r) none
+          → keep (λ (r : Rewrite). not (inPlace g r)) (only has r) ≡ only (has && not found) r
+      go true true z = rw (← z) refl
+      go true false z = rw (← z) refl
+      go false found z = refl
+
+-- ---- both
+
+ways : (P : Bool → Bool → Type 0) → P true true → P true false → P false true → P false false → (a b : Bool) → P a b
+ways P tt tf ft ff true true = tt
+ways P tt tf ft ff true false = tf
+ways P tt tf ft ff false true = ft
+ways P tt tf ft ff false false = ff
+
+flat-append : {A B : Type 0} (f : A → List B) (l m : List A) → flatMap f (l ++ m) ≡ flatMap f l ++ flatMap f m
+unfolding flatMap
+flat-append f [] m = refl
+flat-append f (a ∷ l) m = ap (λ k. f a ++ k) (flat-append f l m) ∙ sym (append-assoc (f a) (flatMap f l) (flatMap f m))
+
+each-append : {A : Type 0} (g : Ground) (f : Rewrite → Held → A) (l m : List Rewrite) → eachInPlace g f (l ++ m) ≡ eachInPlace g f l ++ eachInPlace g f m
+unfolding eachInPlace
+each-append g f l m = flat-append (λ (r : Rewrite). whenHeld (preallocated g r) [] (λ (h : Held). f r h ∷ [])) l m
+
+module _ (g : Ground) (c : RangeChange) (size : ℕ) (p : Parts) (part : Parting (g .held) c p) where
+  abbrev ch : Change
+  ch = changeOf c size
+
+  pub each-sides : {A : Type 0} (f : Rewrite → Held → A) → eachInPlace g f (ch .rewrites) ≡ sides (p .front .found) (p .back .found) (f (c .front) (heldIn (p .front))) (f (c .back) (heldIn (p .back)))
+  each-sides {A} f =
+      each-append g f (only (c .«has_front») (c .front)) (only (c .«has_back») (c .back))
+      ∙ ap₂ (λ (a b : List A). a ++ b) (each-one g (c .«has_front») (c .front) (p .front) (part .front) f) (each-one g (c .«has_back») (c .back) (p .back) (part .back) f)
+
+  pub anew-sides : rewrittenAnew g (ch .rewrites) ≡ sides (frontNew c p) (backNew c p) (c .front) (c .back)
+  anew-sides =
+      keep-append (λ (r : Rewrite). not (inPlace g r)) (only (c .«has_front») (c .front)) (only (c .«has_back») (c .back))
+      ∙ ap₂ (λ (a b : List Rewrite). a ++ b) (anew-one g (c .«has_front») (c .front) (p .front) (part .front)) (anew-one g (c .«has_back») (c .back) (p .back) (part .back))
+
+  -- new extents, with the place of each side
+  pub wanted-sides : (limit : ℕ) → wanted g ch limit ≡ sides (frontNew c p) (backNew c p) (wantedAt g (c .front)) (wantedAt g (c .back))
+  unfolding flatMap
+  wanted-sides limit =
+      rw (anew-sides, append-nil)
+      (ways (λ a b. map (wantedAt g) (sides a b (c .front) (c .back)) ≡ sides a b (wantedAt g (c .front)) (wantedAt g (c .back))) refl refl refl refl (frontNew c p) (backNew c p))
+
+  module _ (limit x y : ℕ) where
+    abbrev pub places : List ℕ
+    places = sides (frontNew c p) (backNew c p) x y
+
+    pub news-sides : newItems g places (wanted g ch limit) ≡ sides (frontNew c p) (backNew c p) (newAt g (c .front) x) (newAt g (c .back) y)
+    unfolding newItems
+    news-sides =
+        rw (wanted-sides limit)
+        (ways (λ a b. newItems g (sides a b x y) (sides a b (wantedAt g (c .front)) (wantedAt g (c .back))) ≡ sides a b (newAt g (c .front) x) (newAt g (c .back) y)) refl refl refl refl (frontNew c p) (backNew c p))
+
+    pub adds-sides : placed places (wanted g ch limit) ≡ sides (frontNew c p) (backNew c p) (addOf (g .sector) (c .front) x) (addOf (g .sector) (c .back) y)
+    unfolding placed
+    adds-sides =
+        rw (wanted-sides limit)
+        (ways (λ a b. placed (sides a b x y) (sides a b (wantedAt g (c .front)) (wantedAt g (c .back))) ≡ sides a b (addOf (g .sector) (c .front) x) (addOf (g .sector) (c .back) y)) refl refl refl refl (frontNew c p) (backNew c p))
+
+    pub writes-sides : writesAnew places (rewrittenAnew g (ch .rewrites)) ≡ sides (frontNew c p) (backNew c p) (writeAt (c .front) x) (writeAt (c .back) y)
+    unfolding writesAnew
+    writes-sides =
+        rw anew-sides
+        (ways (λ a b. writesAnew (sides a b x y) (sides a b (c .front) (c .back)) ≡ sides a b (writeAt (c .front) x) (writeAt (c .back) y)) refl refl refl refl (frontNew c p) (backNew c p))
+
+  -- nothing is preallocated
+  pub none-preallocated : (limit : ℕ) → any (λ (w : Wanted). eqb (w .kind) 2) (wanted g ch limit) ≡ false
+  unfolding any
+  none-preallocated limit =
+      rw (wanted-sides limit)
+      (ways (λ a b. any (λ (w : Wanted). eqb (w .kind) 2) (sides a b (wantedAt g (c .front)) (wantedAt g (c .back))) ≡ false) refl refl refl refl (frontNew c p) (backNew c p))
+
+-- ---- how many
+
+pub only-few : {A : Type 0} (b : Bool) (x : A) → length (only b x) ≤ 1
+only-few true x = omega arith
+only-few false x = omega arith
+
+pub sides-few : {A : Type 0} (a b : Bool) (x y : A) → length (sides a b x y) ≤ 2
+sides-few a b x y = rw (length-append (only a x) (only b y)) (omega (arith, only-few a x, only-few b y))

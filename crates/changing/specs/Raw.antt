@@ -1,0 +1,63 @@
+-- What the structs and functions of this crate say, in the terms of the definitions.
+use mathlib.Core.Bool.{Bool, true, false, cond}
+use mathlib.Core.List.{List}
+use mathlib.Core.Option.{none}
+use mathlib.Core.Path.{_≡_}
+use Prim.Native.Nat.{ℕ, _+_, _<_, _≤_, _^_}
+use Rattle.item.specs.Items.{Fields, fields, items, writtenInPlace}
+use Rattle.lists.specs.Lists.{rangeSound}
+use Rattle.cut.specs.Mappings.{holds}
+use Rattle.cut.specs.Pieces.{Piece}
+use Rattle.segment.specs.declared.Segment.{Segment}
+use Rattle.segment.specs.Segments.{Runs, Good, Around, Inserted, Joining, pieces}
+use Rattle.refs.specs.Drops.{Held}
+use Rattle.request.specs.declared.Volume.{Volume}
+use Rattle.change.specs.declared.Rewrite.{Rewrite}
+use Rattle.change.specs.declared.RangeChange.{RangeChange}
+use Rattle.change.specs.Rewrites.{preallocatedIn, positionOf}
+use Rattle.rewrites.specs.declared.Holder.{Holder}
+use Rattle.rewrites.specs.Raw.{heldIn, holderIn}
+use Rattle.changing.specs.declared.Parts.{Parts}
+
+-- the preallocated items that hold a change's sectors
+pub record Parting (hs : List Held) (c : RangeChange) (p : Parts) : Type 0 where
+  pub front : holderIn (p .front) ≡ cond (c .«has_front») (preallocatedIn hs (c .front)) none
+  pub back : holderIn (p .back) ≡ cond (c .«has_back») (preallocatedIn hs (c .back)) none
+
+-- ---- the segment, step by step
+
+-- an item put in, if it is there
+pub record PutIf (there : Bool) (x : Fields) (s : Segment) (seg : List ℕ) (r : Segment) (seg′ : List ℕ) : Type 0 where
+  pub put : there ≡ true → Inserted x s seg r seg′
+  pub kept : there ≡ false → (r ≡ s) × (seg′ ≡ seg)
+
+-- the joins around a sector, if it is written in place
+pub record JoinedIf (there : Bool) (generation sector : ℕ) (list : List ℕ) (s : Segment) (seg : List ℕ) (r : Segment) (seg′ : List ℕ) : Type 0 where
+  pub joined : there ≡ true → Joining generation sector list s seg r seg′
+  pub kept : there ≡ false → (r ≡ s) × (seg′ ≡ seg)
+
+-- a segment that makes these pieces of the list, with at most n items; what is cut is [lo, hi)
+pub record Made (ps : List Piece) (lo hi n : ℕ) (list : List ℕ) (s : Segment) (seg : List ℕ) : Type 0 where
+  pub same : pieces list s seg ≡ ps
+  pub few : s .count ≤ n
+  pub good : Good list s seg
+  pub around : (k : ℕ) → lo ≤ k → k < hi → Around k list s
+
+-- a sector that is written in place lies in what is cut, and in the item that holds it
+pub record Inside (v : Volume) (c : RangeChange) (r : Rewrite) (h : Holder) : Type 0 where
+  pub sound : rangeSound (fields (h .item)) ≡ true
+  pub holds : holds (r .sector) (fields (h .item)) ≡ true
+  pub low : c .lo ≤ r .sector
+  pub some : 0 < v .sector
+  pub high : r .sector + v .sector ≤ c .hi
+  pub limit : c .hi ≤ 2 ^ 63
+
+pub record Ready (v : Volume) (c : RangeChange) (p : Parts) (list : List ℕ) : Type 0 where
+  pub runs : Runs 0 (items list)
+  pub generation : v .generation + 1 < 2 ^ 64
+  pub front : p .front .found ≡ true → Inside v c (c .front) (p .front)
+  pub back : p .back .found ≡ true → Inside v c (c .back) (p .back)
+
+-- the item over a sector that is written in place
+abbrev pub partItem : Volume → Rewrite → Holder → Fields
+partItem v r h = writtenInPlace (fields (h .item)) (r .sector) (v .generation + 1) (positionOf r (heldIn h)) (v .sector)

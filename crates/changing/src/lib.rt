@@ -1,0 +1,155 @@
+// `change_range` in code: the first half counts a plan's lines and finds what refuses it, with no place taken; the second
+// half takes the places and writes the plan.
+use change::RangeChange;
+use change::Rewrite;
+use item::Item;
+use records::both;
+use request::File;
+use request::Volume;
+use rewrites::Holder;
+use segment::Segment;
+ghost use mathlib.Core.Bool.{true};
+ghost use mathlib.Core.List.{_++_};
+ghost use mathlib.Core.Path.{_≡_};
+ghost use Prim.Native.Nat.{_+_, _*_, _<_, _≤_, _^_};
+ghost use lib.ListN.{length};
+ghost use Rattle.records.specs.Select.{only};
+ghost use Rattle.item.specs.Items.{fields, items, regularItem};
+ghost use Rattle.lists.specs.Lists.{rangeSound};
+ghost use Rattle.cut.specs.Mappings.{holds};
+ghost use Rattle.segment.specs.Segments.{itemAt, Good, Around};
+ghost use Rattle.refs.specs.Drops.{held};
+ghost use Rattle.plan.specs.Outputs.{addNumbers, writeNumbers};
+ghost use Rattle.lines.specs.Lines.{Laid};
+ghost use Rattle.change.specs.Rewrites.{positionOf, writeInPlace};
+ghost use Rattle.rewrites.specs.Raw.{heldIn};
+ghost use Rattle.changing.specs.Raw.{Parting, PutIf, JoinedIf, Made, Ready, partItem};
+ghost use Rattle.changing.specs.Sides.{frontNew, backNew, sides, addOf, writeAt, Writable, writesOf, joinedPieces};
+
+// The preallocated items that hold a change's two sectors, each if it is there: those sectors are written in place.
+pub struct Parts {
+    pub front: Holder,
+    pub back: Holder,
+}
+
+pub fn parts_of(c: RangeChange, list: &[u8], shared: &[u8]) -> Parts
+    requires { ⌜ length (now shared) ≡ length (items (now list)) ⌝ }
+    ensures { λ r. ⌜ Parting (held (items (now (list .entry))) (now (shared .entry))) c r ⌝ }
+{
+    Parts {
+        front: rewrites::preallocated(c.has_front, c.front, list, shared),
+        back: rewrites::preallocated(c.has_back, c.back, list, shared),
+    }
+}
+
+// The item over a sector that is written in place, put into the segment.
+fn insert_in_place(v: Volume, r: Rewrite, h: Holder, seg: &mut [u8], s: Segment) -> Segment
+    requires { ⌜ (h .found ≡ true → (rangeSound (fields (h .item)) ≡ true) × (holds (r .sector) (fields (h .item)) ≡ true)) × (v .generation + 1 < 2 ^ 64) × ((s .count + 1) * 70 ≤ length (now seg)) ⌝ }
+    ensures { λ t. ⌜ PutIf (h .found) (partItem v r h) s (now (seg .entry)) t (now (seg .exit)) ⌝ }
+{
+    if !h.found {
+        return s;
+    }
+    segment::insert_item(seg, s, rewrites::item_in_place(v, r, h))
+}
+
+// The joins around a sector that is written in place.
+fn join_part(v: Volume, r: Rewrite, h: Holder, list: &[u8], seg: &mut [u8], s: Segment) -> Segment
+    requires { ⌜ (v .generation + 1 < 2 ^ 64) × (h .found ≡ true → Good (now list) s (now seg) × Around (r .sector) (now list) s × (0 < s .count) × (itemAt (now seg) 0 .key ≤ r .sector)) ⌝ }
+    ensures { λ t. ⌜ JoinedIf (h .found) (v .generation + 1) (r .sector) (now (list .entry)) s (now (seg .entry)) t (now (seg .exit)) ⌝ }
+{
+    if !h.found {
+        return s;
+    }
+    segment::join_around(list, seg, s, v.generation + 1, r.sector)
+}
+
+// What the change makes of the list, with no place taken: the cut, the sectors written in place, the joins around them.
+pub fn joined_segment(v: Volume, c: RangeChange, p: Parts, list: &[u8], seg: &mut [u8]) -> Segment
+    requires { ⌜ Ready v c p (now list) × (280 ≤ length (now seg)) ⌝ }
+    ensures { λ t. ⌜ Made (joinedPieces v c p (items (now (list .entry)))) (c .lo) (c .hi) 4 (now (list .entry)) t (now (seg .exit)) ⌝ }
+{
+    let cut = segment::cut_segment(list, c.lo, c.hi, seg);
+    let one = insert_in_place(v, c.front, p.front, seg, cut);
+    let two = insert_in_place(v, c.back, p.back, seg, one);
+    let three = join_part(v, c.front, p.front, list, seg, two);
+    join_part(v, c.back, p.back, list, seg, three)
+}
+
+// The item over a sector that takes a new extent, put into the segment.
+fn insert_new(v: Volume, f: File, new: bool, r: Rewrite, place: u64, seg: &mut [u8], s: Segment) -> Segment
+    requires { ⌜ (v .generation + 1 < 2 ^ 64) × ((s .count + 1) * 70 ≤ length (now seg)) ⌝ }
+    ensures { λ t. ⌜ PutIf new (regularItem (f .number) (r .sector) (v .generation + 1) place (v .sector)) s (now (seg .entry)) t (now (seg .exit)) ⌝ }
+{
+    if !new {
+        return s;
+    }
+    let item = Item::regular_extent_item(f.number, r.sector, v.generation + 1, place, v.sector);
+    segment::insert_item(seg, s, item)
+}
+
+// Whether the front sector takes a new extent, and the back one.
+pub fn front_new(c: RangeChange, p: Parts) -> bool
+    ensures { λ r. ⌜ r ≡ frontNew c p ⌝ }
+{
+    let front = p.front;
+    both(c.has_front, !front.found)
+}
+
+pub fn back_new(c: RangeChange, p: Parts) -> bool
+    ensures { λ r. ⌜ r ≡ backNew c p ⌝ }
+{
+    let back = p.back;
+    both(c.has_back, !back.found)
+}
+
+// ---- adds and writes
+
+// A sector's new extent as line n, if it takes one.
+fn put_new_add(new: bool, sector: u64, r: Rewrite, place: u64, out: &mut [u64], n: usize) -> usize
+    requires { ⌜ n + 1 < 2 ^ 64 ⌝ }
+    ensures { λ m. ⌜ Laid addNumbers 3 n (only new (addOf sector r place)) (now (out .entry)) m (now (out .exit)) ⌝ }
+{
+    if !new {
+        return n;
+    }
+    lines::put_add(out, n, place, sector, r.sector)
+}
+
+// The adds of a plan: x is the front sector's place, y the back one's.
+fn put_adds(c: RangeChange, p: Parts, sector: u64, x: u64, y: u64, out: &mut [u64]) -> usize
+    ensures { λ m. ⌜ Laid addNumbers 3 0 (sides (frontNew c p) (backNew c p) (addOf sector (c .front) x) (addOf sector (c .back) y)) (now (out .entry)) m (now (out .exit)) ⌝ }
+{
+    let n = put_new_add(front_new(c, p), sector, c.front, x, out, 0);
+    put_new_add(back_new(c, p), sector, c.back, y, out, n)
+}
+
+// A sector's write to its new extent as line n, if it takes one.
+fn put_new_write(new: bool, r: Rewrite, place: u64, out: &mut [u64], n: usize) -> usize
+    requires { ⌜ n + 1 < 2 ^ 64 ⌝ }
+    ensures { λ m. ⌜ Laid writeNumbers 4 n (only new (writeAt r place)) (now (out .entry)) m (now (out .exit)) ⌝ }
+{
+    if !new {
+        return n;
+    }
+    lines::put_write(out, n, r.sector, place, r.first, r.end)
+}
+
+// The writes in place of a plan.
+fn put_writes_in_place(c: RangeChange, p: Parts, out: &mut [u64]) -> usize
+    requires { ⌜ Writable (c .front) (p .front) × Writable (c .back) (p .back) ⌝ }
+    ensures { λ m. ⌜ Laid writeNumbers 4 0 (sides (p .front .found) (p .back .found) (writeInPlace (c .front) (heldIn (p .front))) (writeInPlace (c .back) (heldIn (p .back)))) (now (out .entry)) m (now (out .exit)) ⌝ }
+{
+    let n = rewrites::put_in_place(c.front, p.front, out, 0);
+    rewrites::put_in_place(c.back, p.back, out, n)
+}
+
+// The writes of a plan: those in place first.
+fn put_writes(c: RangeChange, p: Parts, x: u64, y: u64, out: &mut [u64]) -> usize
+    requires { ⌜ Writable (c .front) (p .front) × Writable (c .back) (p .back) ⌝ }
+    ensures { λ m. ⌜ Laid writeNumbers 4 0 (writesOf c p x y) (now (out .entry)) m (now (out .exit)) ⌝ }
+{
+    let n = put_writes_in_place(c, p, out);
+    let m = put_new_write(front_new(c, p), c.front, x, out, n);
+    put_new_write(back_new(c, p), c.back, y, out, m)
+}

@@ -1,0 +1,6 @@
+pub mod Order
+pub mod Times
+pub mod Nearest
+pub mod Walk
+pub mod Turns
+pub mod Laws

@@ -1,0 +1,51 @@
+-- Which drops a cut without extents written in place has, or with one. Assumes nothing.
+use mathlib.Core.Path.{_≡_, refl, ap, _∙_, sym}
+use mathlib.Core.Bool.{Bool, true, false, _&&_, not}
+use mathlib.Core.List.{List, [], _∷_}
+use Prim.Native.Nat.{ℕ}
+use Rattle.records.specs.Select.{keep, any}
+use Rattle.item.specs.Items.{Fields, ranged, hole}
+use Rattle.cut.specs.Cuts.{covered}
+use Rattle.cut.specs.Refs.{names}
+use Rattle.refs.specs.Compared.{among}
+use Rattle.refs.specs.Drops.{Held, held}
+use Rattle.drops.specs.declared.Cut.{Cut}
+use Rattle.drops.specs.Dropped.{dropped, dropsIn}
+use Rattle.drops.proofs.Tallies.{and-true}
+
+-- no item names the extent at 0
+names-zero : (f : Fields) → names 0 f ≡ false
+names-zero f = go (ranged f) (hole f)
+  where
+    go : (r h : Bool) → ((r && not h) && h) ≡ false
+    go false h = refl
+    go true true = refl
+    go true false = refl
+
+-- so 0 stands for none
+pub among-none : (f : Fields) → among [] f ≡ among (0 ∷ 0 ∷ []) f
+unfolding any
+among-none f = rw (names-zero f) refl
+
+pub among-one : (s : ℕ) (f : Fields) → among (s ∷ []) f ≡ among (s ∷ 0 ∷ []) f
+unfolding any
+among-one s f = rw (names-zero f) refl
+
+keep-same : {A : Type 0} (p q : A → Bool) → ((a : A) → p a ≡ q a) → (l : List A) → keep p l ≡ keep q l
+unfolding keep
+keep-same p q h [] = refl
+keep-same p q h (a ∷ l) = rw (h a, keep-same p q h l) refl
+
+-- the drops of a cut, with the extents in any list that says the same
+pub drops-among : (c : Cut) (extents : List ℕ) → ((f : Fields) → among extents f ≡ among (c .one ∷ c .two ∷ []) f) → (fs : List Fields) (bs : List ℕ)
+    → keep (λ (h : Held). covered (c .lo) (c .hi) (h .item) && (not (hole (h .item)) && not (among extents (h .item)))) (held fs bs) ≡ dropsIn c fs bs
+drops-among c extents e fs bs =
+    keep-same (λ (h : Held). covered (c .lo) (c .hi) (h .item) && (not (hole (h .item)) && not (among extents (h .item)))) (dropped c)
+    (λ h. ap (λ (b : Bool). covered (c .lo) (c .hi) (h .item) && (not (hole (h .item)) && not b)) (e (h .item))) (held fs bs)
+
+-- without extents written in place
+pub drops-plain : (lo hi : ℕ) (fs : List Fields) (bs : List ℕ) → keep (λ (h : Held). covered lo hi (h .item) && not (hole (h .item))) (held fs bs) ≡ dropsIn (record { lo = lo; hi = hi; one = 0; two = 0 }) fs bs
+unfolding any
+drops-plain lo hi fs bs =
+    keep-same (λ (h : Held). covered lo hi (h .item) && not (hole (h .item))) (dropped (record { lo = lo; hi = hi; one = 0; two = 0 }))
+    (λ h. ap (λ (b : Bool). covered lo hi (h .item) && b) (sym (and-true (not (hole (h .item)))) ∙ ap (λ (b : Bool). not (hole (h .item)) && not b) (among-none (h .item)))) (held fs bs)

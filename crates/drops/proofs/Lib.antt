@@ -1,0 +1,5 @@
+pub mod Refusals
+pub mod Flat
+pub mod Tallies
+pub mod Rows
+pub mod Cuts

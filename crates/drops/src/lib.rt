@@ -1,0 +1,225 @@
+// Items that a cut drops, over a lent list, its shared bytes and the table: what they are refused with, which extents
+// are released, and a line for each drop.
+use item::Item;
+use records::both;
+use records::either;
+use records::unless;
+use table::Found;
+use table::Row;
+ghost use mathlib.Core.Path.{_≡_};
+ghost use mathlib.Core.Bool.{true, cond, not};
+ghost use mathlib.Core.List.{List, flatMap};
+ghost use Prim.Native.Nat.{ℕ, _+_, _<_, _^_};
+ghost use lib.ListN.{length};
+ghost use Rattle.item.specs.Items.{fields, items};
+ghost use Rattle.table.specs.Rows.{rows, tableKept};
+ghost use Rattle.plan.specs.Outputs.{refNumbers};
+ghost use Rattle.lines.specs.Lines.{Laid};
+ghost use Rattle.refs.specs.Drops.{windowSound, dropRefusal, earlier, dropsRefusal, released, releases, unrefs};
+ghost use Rattle.drops.specs.Dropped.{taken, dropsIn};
+ghost use Rattle.drops.specs.Raw.{due, itemDue, dropOf, lineOf, rowLines};
+
+// The range that is cut, and the starts of two extents that are written in place (0: none), whose items are compared
+// instead of dropped.
+pub struct Cut {
+    pub lo: u64,
+    pub hi: u64,
+    pub one: u64,
+    pub two: u64,
+}
+
+// A refusal with the extent that it is due at; number 0 is none.
+pub struct Refused {
+    pub start: u64,
+    pub number: u8,
+}
+
+// Whether the cut drops an item.
+fn is_dropped(c: Cut, item: Item) -> bool
+    ensures { λ r. ⌜ r ≡ taken c (fields item) ⌝ }
+{
+    both(
+        cut::is_covered(c.lo, c.hi, item),
+        both(!cut::is_hole(item), !refs::is_among(c.one, c.two, item)),
+    )
+}
+
+// Whether an item's window lies inside the extent, if it is not compressed.
+fn window_sound(item: Item, row: Row) -> bool
+    ensures { λ r. ⌜ r ≡ windowSound (fields item) row ⌝ }
+{
+    either(
+        item.compression() != 0,
+        table::item_window_inside(
+            item.extent_start(),
+            item.position(),
+            item.length(),
+            row.length,
+        ),
+    )
+}
+
+// Refusals 14 and 17 of one drop.
+fn drop_refusal(table: &[u64], item: Item) -> u8
+    requires { ⌜ tableKept (rows (now table)) ≡ true ⌝ }
+    ensures { λ r. ⌜ r ≡ dropRefusal (rows (now (table .entry))) (fields item) ⌝ }
+{
+    let Found::At(_, row) = table::find_row(table, item.extent_start()) else {
+        return 14;
+    };
+    unless(window_sound(item, row), 17)
+}
+
+// What is due for one item.
+fn item_due(c: Cut, table: &[u64], item: Item) -> Refused
+    requires { ⌜ tableKept (rows (now table)) ≡ true ⌝ }
+    ensures { λ r. ⌜ due r ≡ itemDue c (rows (now (table .entry))) (fields item) ⌝ }
+{
+    if is_dropped(c, item) {
+        return Refused {
+            start: item.extent_start(),
+            number: drop_refusal(table, item),
+        };
+    }
+    Refused {
+        start: 0,
+        number: 0,
+    }
+}
+
+// Of two refusals the one at the lower start.
+fn earlier(a: Refused, b: Refused) -> Refused
+    ensures { λ r. ⌜ due r ≡ earlier (due a) (due b) ⌝ }
+{
+    if a.number == 0 {
+        return b;
+    }
+    if both(b.number != 0, b.start < a.start) {
+        return b;
+    }
+    a
+}
+
+// Refusals 14 and 17 of the drops, by extent start. The shared bytes do not count.
+pub fn drops_refusal(c: Cut, list: &[u8], table: &[u64]) -> u8
+    requires { ⌜ tableKept (rows (now table)) ≡ true ⌝ }
+    ensures { λ r. ⌜ ((bs : List ℕ) → length bs ≡ length (items (now (list .entry))) → r ≡ dropsRefusal (rows (now (table .entry))) (dropsIn c (items (now (list .entry))) bs)) ⌝ }
+{
+    let n = list.len() / 70;
+    let mut why = Refused {
+        start: 0,
+        number: 0,
+    };
+    for i in 0..n {
+        let next = item_due(c, table, item::item_at(list, i));
+        why = earlier(why, next);
+    }
+    why.number
+}
+
+// Whether an item is a drop of the extent at `start`.
+fn is_drop_of(c: Cut, start: u64, item: Item) -> bool
+    ensures { λ r. ⌜ r ≡ dropOf c start (fields item) ⌝ }
+{
+    if item.extent_start() != start {
+        return false;
+    }
+    is_dropped(c, item)
+}
+
+fn one_if(b: bool) -> u64
+    ensures { λ r. ⌜ r ≡ cond b 1 0 ⌝ }
+{
+    if b { 1 } else { 0 }
+}
+
+// Whether an extent is released: all its references are drops, and none of their leaves is shared.
+pub fn is_released(c: Cut, list: &[u8], shared: &[u8], row: Row) -> bool
+    requires { ⌜ length (now shared) ≡ length (items (now list)) ⌝ }
+    ensures { λ r. ⌜ r ≡ released (dropsIn c (items (now (list .entry))) (now (shared .entry))) row ⌝ }
+{
+    let n = list.len() / 70;
+    let start = row.start;
+    let mut drops: u64 = 0;
+    let mut free = true;
+    for i in 0..n {
+        let own = is_drop_of(c, start, item::item_at(list, i));
+        drops += one_if(own);
+        free = both(free, either(!own, shared[i] == 0));
+    }
+    both(row.references == drops, free)
+}
+
+// The line of one item, if it is a drop of the extent at `start`.
+fn put_line(c: Cut, start: u64, item: Item, out: &mut [u64], n: usize) -> usize
+    requires { ⌜ n + length (lineOf c start (fields item)) < 2 ^ 64 ⌝ }
+    ensures { λ r. ⌜ Laid refNumbers 2 n (lineOf c start (fields item)) (now (out .entry)) r (now (out .exit)) ⌝ }
+{
+    if is_drop_of(c, start, item) {
+        let offset = item.reference();
+        return lines::put_ref(out, n, start, offset);
+    }
+    n
+}
+
+// A line for each drop of the extent at `start`, in list order.
+fn put_lines(c: Cut, start: u64, list: &[u8], out: &mut [u64], n: usize) -> usize
+    requires { ⌜ n + length (flatMap (lineOf c start) (items (now list))) < 2 ^ 64 ⌝ }
+    ensures { λ r. ⌜ Laid refNumbers 2 n (flatMap (lineOf c start) (items (now (list .entry)))) (now (out .entry)) r (now (out .exit)) ⌝ }
+{
+    let mut at = n;
+    for i in 0..list.len() / 70 {
+        at = put_line(c, start, item::item_at(list, i), out, at);
+    }
+    at
+}
+
+// Whether a row's drops give lines of the kind that is asked for.
+fn is_asked(release: bool, released: bool) -> bool
+    ensures { λ r. ⌜ r ≡ cond release released (not released) ⌝ }
+{
+    if release { released } else { !released }
+}
+
+// The lines of one row: of its drops, if they are releases or unrefs as is asked.
+fn put_row(
+    c: Cut,
+    release: bool,
+    list: &[u8],
+    shared: &[u8],
+    row: Row,
+    out: &mut [u64],
+    n: usize,
+) -> usize
+    requires { ⌜ length (now shared) ≡ length (items (now list)) ⌝ }
+    requires { ⌜ n + length (rowLines release (dropsIn c (items (now list)) (now shared)) row) < 2 ^ 64 ⌝ }
+    ensures { λ r. ⌜ Laid refNumbers 2 n (rowLines release (dropsIn c (items (now (list .entry))) (now (shared .entry))) row) (now (out .entry)) r (now (out .exit)) ⌝ }
+{
+    if is_asked(release, is_released(c, list, shared, row)) {
+        return put_lines(c, row.start, list, out, n);
+    }
+    n
+}
+
+// A line for each drop that is a release, or for each that is an unref: by extent start, then in list order.
+pub fn put_drops(
+    c: Cut,
+    release: bool,
+    list: &[u8],
+    shared: &[u8],
+    table: &[u64],
+    out: &mut [u64],
+    n: usize,
+) -> usize
+    requires { ⌜ tableKept (rows (now table)) ≡ true ⌝ }
+    requires { ⌜ length (now shared) ≡ length (items (now list)) ⌝ }
+    requires { ⌜ n + length (items (now list)) < 2 ^ 64 ⌝ }
+    ensures { λ r. ⌜ Laid refNumbers 2 n (cond release (releases (rows (now (table .entry))) (dropsIn c (items (now (list .entry))) (now (shared .entry)))) (unrefs (rows (now (table .entry))) (dropsIn c (items (now (list .entry))) (now (shared .entry))))) (now (out .entry)) r (now (out .exit)) ⌝ }
+{
+    let mut at = n;
+    for i in 0..table.len() / 5 {
+        let row = table::row_at(table, i);
+        at = put_row(c, release, list, shared, row, out, at);
+    }
+    at
+}

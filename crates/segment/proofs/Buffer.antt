@@ -1,0 +1,121 @@
+-- Items put into a buffer of records: it is a list of items, set one by one. Assumes nothing.
+use mathlib.Core.Path.{_≡_, refl, ap, ap₂, _∙_, sym}
+use mathlib.Core.List.{List, [], _∷_, _++_, append-assoc, append-nil}
+use mathlib.Core.Bool.{Bool, true, false}
+use Prim.Native.Nat.{ℕ, zero, suc, _+_, _*_, _/_, _^_, _<_, _≤_}
+use native.Mathlib.Omega.{arith}
+use native.Mathlib.Nat.{add-zero, zero-add, add-assoc, zero-mul, suc-add}
+use lib.ListN.{length, take, drop, set, length-append, length-take, length-drop}
+use lib.Seq.{drop-at, take-take, take-append-le, drop-append-le, drop-drop, take-nil, take-suc-set}
+use native.Mathlib.Numerals.{add-one}
+use Rattle.endian.specs.Le.{put, Bytes, room}
+use Rattle.endian.proofs.Numbers.{num-take, num-room, length-enc}
+use Rattle.endian.proofs.Puts.{length-put}
+use Rattle.records.specs.Select.{only}
+use Rattle.records.specs.Records.{chunks, records}
+use Rattle.item.specs.Items.{Fields, fields, itemOf, decode, encode, items, Sound}
+use Rattle.item.specs.declared.Item.{Item}
+use Rattle.item.proofs.Runs.{decode-encode}
+use Rattle.item.proofs.Laws.{item-decode, items-at, items-length}
+use Rattle.segment.specs.Segments.{nothing, itemAt, Added}
+
+-- ---- general laws of take, drop and put
+
+pub drop-take : (m n : ℕ) (s : List ℕ) → drop m (take (m + n) s) ≡ take n (drop m s)
+drop-take zero n s = rw zero-add refl
+drop-take (suc m) n [] = rw (take-nil, take-nil) refl
+drop-take (suc m) n (x ∷ s) = rw suc-add (drop-take m n s)
+
+take-put : (m at : ℕ) (vs s : List ℕ) → m ≤ at → at ≤ length s → take m (put vs at s) ≡ take m s
+unfolding put
+take-put m at vs s h l =
+    let k : m ≤ length (take at s) = simp length-take (omega arith) in
+    rw (append-assoc, take-append-le m (take at s) _ k, take-take) refl
+
+drop-put : (m at : ℕ) (vs s : List ℕ) → m + at ≤ length s → drop m (put vs (m + at) s) ≡ put vs at (drop m s)
+unfolding put
+drop-put m at vs s h =
+    let k : m ≤ length (take (m + at) s) = simp length-take (omega arith) in
+    rw (append-assoc, drop-append-le m (take (m + at) s) _ k, drop-take, drop-drop, ← append-assoc, ← add-assoc) refl
+
+-- ---- a record is its own 70 bytes
+
+pub decode-take : (s : List ℕ) → decode (take 70 s) ≡ decode s
+unfolding decode itemOf
+decode-take s =
+    let d : take 53 (drop 17 (take 70 s)) ≡ take 53 (drop 17 s) = ap (take 53) (drop-take 17 53 s) ∙ take-take 53 53 (drop 17 s) (omega arith) in
+    rw (num-take 8 0 70 s (omega arith), num-take 1 8 70 s (omega arith), num-take 8 9 70 s (omega arith), d) refl
+
+length-encode : (f : Fields) → length (encode f) ≡ 70
+unfolding encode
+length-encode f = simp (length-append, length-enc)
+
+-- ---- one record put
+
+chunks-put : (f : Fields) → Sound f → (n k : ℕ) (s : List ℕ) → k < n → n * 70 ≤ length s → chunks decode 70 n (put (encode f) (k * 70) s) ≡ set (chunks decode 70 n s) k f
+unfolding chunks
+chunks-put f h zero k s l m = absurd (omega arith)
+chunks-put f h (suc n) zero s l m =
+    let e : put (encode f) (0 * 70) s ≡ encode f ++ drop 70 s = unfold put in rw (zero-mul, zero-add, length-encode) refl in
+    rw (e, decode-encode f (drop 70 s) h, drop-at (encode f) (drop 70 s) 70 (length-encode f)) refl
+chunks-put f h (suc n) (suc k) s l m =
+    let a : suc k * 70 ≡ 70 + k * 70 = omega arith in
+    let v : 70 ≤ length (drop 70 s) + 70 = simp length-drop (omega arith) in
+    let t : decode (put (encode f) (suc k * 70) s) ≡ decode s = sym (decode-take _) ∙ ap decode (take-put 70 (suc k * 70) (encode f) s (omega arith) (omega arith)) ∙ decode-take s in
+    let d : drop 70 (put (encode f) (suc k * 70) s) ≡ put (encode f) (k * 70) (drop 70 s) = rw a (drop-put 70 (k * 70) (encode f) s (omega arith)) in
+    ap₂ (λ (x : Fields) (xs : List Fields). x ∷ xs) t (ap (chunks decode 70 n) d ∙ chunks-put f h n k (drop 70 s) (omega arith) (simp length-drop (omega arith)))
+
+-- a buffer is a list of items, and putting one in sets it
+pub items-put : (f : Fields) (k : ℕ) (s : List ℕ) → Sound f → k < length s / 70 → items (put (encode f) (k * 70) s) ≡ set (items s) k f
+unfolding items records
+items-put f k s h l =
+    let e : length (put (encode f) (k * 70) s) ≡ length s = length-put (encode f) (k * 70) s (omega (arith, length-encode f)) in
+    rw e (chunks-put f h (length s / 70) k s l (omega arith))
+
+-- the numbers of an item in code fit their widths
+pub item-sound : (i : Item) → Bytes (i .«data») → i .file < 2 ^ 64 → i .«key_type» < 256 → i .key < 2 ^ 64 → Sound (fields i)
+unfolding room
+item-sound i b h t k =
+    record {
+      file = omega arith;
+      keyType = omega arith;
+      key = omega arith;
+      generation = num-room 8 0 (i .«data») b;
+      ram = num-room 8 8 (i .«data») b;
+      compression = num-room 1 16 (i .«data») b;
+      encryption = num-room 1 17 (i .«data») b;
+      other = num-room 2 18 (i .«data») b;
+      kind = num-room 1 20 (i .«data») b;
+      extentStart = num-room 8 21 (i .«data») b;
+      extentLength = num-room 8 29 (i .«data») b;
+      position = num-room 8 37 (i .«data») b;
+      length = num-room 8 45 (i .«data») b;
+    }
+
+-- record n, read
+pub record-read : (r : Item) (s : List ℕ) (n : ℕ) → n < length (items s) → r ≡ itemOf (drop (n * 70) s) → fields r ≡ itemAt s n
+record-read r s n h e = item-decode r _ e ∙ sym (items-at s n nothing (omega (arith, items-length s)))
+
+-- ---- appending
+
+pub added-one : (n : ℕ) (f : Fields) (s s′ : List ℕ) → n < length (items s) → items s′ ≡ set (items s) n f → Added n (f ∷ []) s (n + 1) s′
+added-one n f s s′ h e = record { many = refl; those = rw (add-one, e) (take-suc-set (items s) n f h) }
+
+pub added-if : (t : Bool) (n m : ℕ) (f : Fields) (s s′ : List ℕ) → t ≡ true → Added n (f ∷ []) s m s′ → Added n (only t f) s m s′
+added-if t n m f s s′ e h = rw e h
+
+pub added-unless : (t : Bool) (n : ℕ) (f : Fields) (s : List ℕ) → t ≡ false → Added n (only t f) s n s
+added-unless t n f s e = rw e (record { many = sym (add-zero n); those = sym (append-nil (take n (items s))) })
+
+-- at most one more
+pub added-few : (t : Bool) (n m : ℕ) (f : Fields) (s s′ : List ℕ) → Added n (only t f) s m s′ → m ≤ n + 1
+added-few true n m f s s′ h = omega (arith, h .many)
+added-few false n m f s s′ h = omega (arith, h .many)
+
+-- a buffer of k records
+pub items-room : (k : ℕ) (s : List ℕ) → k * 70 ≤ length s → k ≤ length (items s)
+items-room k s h = omega (arith, items-length s)
+
+-- as many bytes, as many records
+pub items-same : (s s′ : List ℕ) → length s′ ≡ length s → length (items s′) ≡ length (items s)
+items-same s s′ h = items-length s′ ∙ rw h (sym (items-length s))

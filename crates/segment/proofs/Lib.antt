@@ -1,0 +1,6 @@
+pub mod Buffer
+pub mod Cutting
+pub mod Segments
+pub mod Inserting
+pub mod Joining
+pub mod Spans

@@ -1,0 +1,303 @@
+// A segment of a file's list in code: the few items that a change makes anew stand in a small buffer of records, beside
+// the lent list, which is not copied.
+use item::Item;
+use records::sum_at_most;
+use records::sum_past;
+ghost use mathlib.Core.Path.{_≡_};
+ghost use mathlib.Core.Bool.{true};
+ghost use mathlib.Core.List.{[], _∷_, _++_};
+ghost use Prim.Native.Nat.{_+_, _-_, _*_, _≤_, _<_, _^_, min, max};
+ghost use lib.Dec.{ltb};
+ghost use lib.ListN.{length, set, take, drop};
+ghost use Rattle.records.specs.Select.{only};
+ghost use Rattle.records.specs.Stages.{every};
+ghost use Rattle.item.specs.Items.{fields, items, end};
+ghost use Rattle.cut.specs.Cuts.{front, back};
+ghost use Rattle.segment.specs.Segments.{itemAt, Added, leading, endsBy, startsBy, bounded, Runs, Good, Around, Cutting, Inserted, Joining};
+ghost use Rattle.segment.specs.Raw.{Within, Behind, Before};
+
+// Records from..to of a list make way for the first `count` records of a buffer.
+pub struct Segment {
+    pub from: usize,
+    pub to: usize,
+    pub count: usize,
+}
+
+// ---- a buffer of records
+
+// Record n of a list.
+fn record_at(list: &[u8], n: usize) -> Item
+    requires { ⌜ n < length (items (now list)) ⌝ }
+    ensures { λ r. ⌜ fields r ≡ itemAt (now (list .entry)) n ⌝ }
+{
+    item::item_at(list, n)
+}
+
+// An item as record n of a buffer.
+fn put_record(seg: &mut [u8], n: usize, item: Item)
+    requires { ⌜ n < length (items (now seg)) ⌝ }
+    ensures { λ r. ⌜ items (now (seg .exit)) ≡ set (items (now (seg .entry))) n (fields item) ⌝ }
+{
+    item::put_item(seg, n * 70, item);
+}
+
+// One item behind the n records of a buffer.
+fn append(seg: &mut [u8], n: usize, item: Item) -> usize
+    requires { ⌜ n < length (items (now seg)) ⌝ }
+    ensures { λ r. ⌜ Added n (fields item ∷ []) (now (seg .entry)) r (now (seg .exit)) ⌝ }
+{
+    put_record(seg, n, item);
+    n + 1
+}
+
+// ---- cutting a range out of a list
+
+fn least(a: u64, b: u64) -> u64
+    ensures { λ r. ⌜ r ≡ min a b ⌝ }
+{
+    if a < b { a } else { b }
+}
+
+fn most(a: u64, b: u64) -> u64
+    ensures { λ r. ⌜ r ≡ max a b ⌝ }
+{
+    if a < b { b } else { a }
+}
+
+// What of an item lies before lo.
+pub fn front_of(lo: u64, item: Item) -> Item
+    requires { ⌜ (fields item .key ≤ lo) × (end (fields item) < 2 ^ 64) ⌝ }
+    ensures { λ r. ⌜ fields r ≡ front lo (fields item) ⌝ }
+{
+    let top = least(item.key + item.length(), lo);
+    let position = item.position();
+    item.windowed(item.file, item.key, position, top - item.key)
+}
+
+// What of it lies from hi on: its position is advanced by as much as its key.
+pub fn back_of(hi: u64, item: Item) -> Item
+    requires { ⌜ (hi ≤ end (fields item)) × (end (fields item) < 2 ^ 64) × (fields item .position + fields item .length < 2 ^ 64) ⌝ }
+    ensures { λ r. ⌜ fields r ≡ back hi (fields item) ⌝ }
+{
+    let end = item.key + item.length();
+    let key = most(item.key, hi);
+    let start = item.position();
+    let position = start + (key - item.key);
+    item.windowed(item.file, key, position, end - key)
+}
+
+// An item's front behind the n records of a buffer, if it starts before lo.
+fn put_front(seg: &mut [u8], n: usize, lo: u64, item: Item) -> usize
+    requires { ⌜ (n < length (items (now seg))) × (end (fields item) < 2 ^ 64) ⌝ }
+    ensures { λ r. ⌜ Added n (only (ltb (fields item .key) lo) (front lo (fields item))) (now (seg .entry)) r (now (seg .exit)) ⌝ }
+{
+    if item.key >= lo {
+        return n;
+    }
+    append(seg, n, front_of(lo, item))
+}
+
+// Its back, if it ends past hi.
+fn put_back(seg: &mut [u8], n: usize, hi: u64, item: Item) -> usize
+    requires { ⌜ (n < length (items (now seg))) × (end (fields item) < 2 ^ 64) × (fields item .position + fields item .length < 2 ^ 64) ⌝ }
+    ensures { λ r. ⌜ Added n (only (ltb hi (end (fields item))) (back hi (fields item))) (now (seg .entry)) r (now (seg .exit)) ⌝ }
+{
+    if !sum_past(item.key, item.length(), hi) {
+        return n;
+    }
+    append(seg, n, back_of(hi, item))
+}
+
+// How many records of a list end at most at lo, before the first that does not.
+fn ending_by(list: &[u8], lo: u64) -> usize
+    ensures { λ r. ⌜ r ≡ leading (endsBy lo) (items (now (list .entry))) ⌝ }
+{
+    let n = list.len() / 70;
+    for i in 0..n {
+        let item = record_at(list, i);
+        if !sum_at_most(item.key, item.length(), lo) {
+            return i;
+        }
+    }
+    n
+}
+
+// The number of the first of n records, from `start` on, that starts past a key; n where there is none.
+fn starting_by(list: &[u8], start: usize, n: usize, key: u64) -> usize
+    requires { ⌜ (start ≤ n) × (n ≤ length (items (now list))) ⌝ }
+    ensures { λ r. ⌜ r ≡ start + leading (startsBy key) (drop start (take n (items (now (list .entry))))) ⌝ }
+{
+    for i in start..n {
+        let item = record_at(list, i);
+        if item.key > key {
+            return i;
+        }
+    }
+    n
+}
+
+// [lo, hi) taken out of a list: the records that it touches make way for the first one's front and the last one's back.
+pub fn cut_segment(list: &[u8], lo: u64, hi: u64, seg: &mut [u8]) -> Segment
+    requires { ⌜ Runs 0 (items (now list)) × (140 ≤ length (now seg)) ⌝ }
+    ensures { λ r. ⌜ Cutting lo hi (now (list .entry)) r (now (seg .exit)) ⌝ }
+{
+    if hi <= lo {
+        return Segment {
+            from: 0,
+            to: 0,
+            count: 0,
+        };
+    }
+    let from = ending_by(list, lo);
+    let to = starting_by(list, from, list.len() / 70, hi - 1);
+    if from == to {
+        return Segment { from, to, count: 0 };
+    }
+    let last = to - 1;
+    let n = put_front(seg, 0, lo, record_at(list, from));
+    let m = put_back(seg, n, hi, record_at(list, last));
+    Segment { from, to, count: m }
+}
+
+// ---- putting an item in
+
+// An item in front of record k of n, which moves up with those behind it.
+fn slide(seg: &mut [u8], k: usize, n: usize, item: Item)
+    requires { ⌜ (k ≤ n) × (n < length (items (now seg))) ⌝ }
+    ensures { λ r. ⌜ take (n + 1) (items (now (seg .exit))) ≡ take k (items (now (seg .entry))) ++ fields item ∷ drop k (take n (items (now (seg .entry)))) ⌝ }
+{
+    let mut carried = item;
+    for i in k..n {
+        let next = record_at(seg, i);
+        put_record(seg, i, carried);
+        carried = next;
+    }
+    put_record(seg, n, carried);
+}
+
+// Record k of n taken away; those behind it move down.
+fn remove(seg: &mut [u8], k: usize, n: usize)
+    requires { ⌜ (k < n) × (n ≤ length (items (now seg))) ⌝ }
+    ensures { λ r. ⌜ take (n - 1) (items (now (seg .exit))) ≡ take k (items (now (seg .entry))) ++ drop (k + 1) (take n (items (now (seg .entry)))) ⌝ }
+{
+    for i in k..n - 1 {
+        let next = record_at(seg, i + 1);
+        put_record(seg, i, next);
+    }
+}
+
+// An item put among a segment's, at its key.
+pub fn insert_item(seg: &mut [u8], s: Segment, item: Item) -> Segment
+    requires { ⌜ (s .count + 1) * 70 ≤ length (now seg) ⌝ }
+    ensures { λ r. ⌜ Inserted (fields item) s (now (seg .entry)) r (now (seg .exit)) ⌝ }
+{
+    let k = starting_by(seg, 0, s.count, item.key);
+    slide(seg, k, s.count, item);
+    Segment {
+        from: s.from,
+        to: s.to,
+        count: s.count + 1,
+    }
+}
+
+// ---- joining around a sector
+
+// Record k of n joined with the next one, if they are joinable.
+fn join_within(seg: &mut [u8], k: usize, n: usize, generation: u64) -> usize
+    requires { ⌜ (k + 1 < n) × (n ≤ length (items (now seg))) × (every bounded (take n (items (now seg))) ≡ true) ⌝ }
+    ensures { λ r. ⌜ Within generation k n (now (seg .entry)) r (now (seg .exit)) ⌝ }
+{
+    let front = record_at(seg, k);
+    let behind = record_at(seg, k + 1);
+    if !cut::is_joinable(front, behind) {
+        return n;
+    }
+    put_record(seg, k, front.joined(behind, generation));
+    remove(seg, k + 1, n);
+    n - 1
+}
+
+// The last item of a segment joined with the list's record behind it.
+fn join_end(list: &[u8], seg: &mut [u8], s: Segment, generation: u64) -> Segment
+    requires { ⌜ Good (now list) s (now seg) × (0 < s .count) ⌝ }
+    ensures { λ r. ⌜ Behind generation (now (list .entry)) s (now (seg .entry)) (s .count - 1) r (now (seg .exit)) ⌝ }
+{
+    if s.to == list.len() / 70 {
+        return s;
+    }
+    let front = record_at(seg, s.count - 1);
+    let behind = record_at(list, s.to);
+    if !cut::is_joinable(front, behind) {
+        return s;
+    }
+    put_record(seg, s.count - 1, front.joined(behind, generation));
+    Segment {
+        from: s.from,
+        to: s.to + 1,
+        count: s.count,
+    }
+}
+
+// Record k of a segment joined with what is behind it.
+fn join_behind(list: &[u8], seg: &mut [u8], s: Segment, k: usize, generation: u64) -> Segment
+    requires { ⌜ Good (now list) s (now seg) × (k < s .count) ⌝ }
+    ensures { λ r. ⌜ Behind generation (now (list .entry)) s (now (seg .entry)) k r (now (seg .exit)) ⌝ }
+{
+    if k + 1 == s.count {
+        return join_end(list, seg, s, generation);
+    }
+    let n = join_within(seg, k, s.count, generation);
+    Segment {
+        from: s.from,
+        to: s.to,
+        count: n,
+    }
+}
+
+// The first item of a segment joined with the list's record before it.
+fn join_start(list: &[u8], seg: &mut [u8], s: Segment, generation: u64) -> Segment
+    requires { ⌜ Good (now list) s (now seg) × (0 < s .count) ⌝ }
+    ensures { λ r. ⌜ Before generation (now (list .entry)) s (now (seg .entry)) 0 r (now (seg .exit)) ⌝ }
+{
+    if s.from == 0 {
+        return s;
+    }
+    let front = record_at(list, s.from - 1);
+    let behind = record_at(seg, 0);
+    if !cut::is_joinable(front, behind) {
+        return s;
+    }
+    put_record(seg, 0, front.joined(behind, generation));
+    Segment {
+        from: s.from - 1,
+        to: s.to,
+        count: s.count,
+    }
+}
+
+// Record k of a segment joined with what is before it.
+fn join_before(list: &[u8], seg: &mut [u8], s: Segment, k: usize, generation: u64) -> Segment
+    requires { ⌜ Good (now list) s (now seg) × (k < s .count) ⌝ }
+    ensures { λ r. ⌜ Before generation (now (list .entry)) s (now (seg .entry)) k r (now (seg .exit)) ⌝ }
+{
+    if k == 0 {
+        return join_start(list, seg, s, generation);
+    }
+    let n = join_within(seg, k - 1, s.count, generation);
+    Segment {
+        from: s.from,
+        to: s.to,
+        count: n,
+    }
+}
+
+// Around a sector written in place: the last item at or before it joined with the one behind it, and then with the one
+// before it.
+pub fn join_around(list: &[u8], seg: &mut [u8], s: Segment, generation: u64, sector: u64) -> Segment
+    requires { ⌜ Good (now list) s (now seg) × Around sector (now list) s × (0 < s .count) × (itemAt (now seg) 0 .key ≤ sector) ⌝ }
+    ensures { λ r. ⌜ Joining generation sector (now (list .entry)) s (now (seg .entry)) r (now (seg .exit)) ⌝ }
+{
+    let k = starting_by(seg, 0, s.count, sector) - 1;
+    let t = join_behind(list, seg, s, k, generation);
+    join_before(list, seg, t, k, generation)
+}
