@@ -193,7 +193,7 @@ module _ {A : Type 0} where
       go true h = omega arith
       go false h = omega arith
 
-  keep-most : (p : A → Bool) (l : List A) → length (keep p l) ≤ length l
+  pub keep-most : (p : A → Bool) (l : List A) → length (keep p l) ≤ length l
   keep-most p l = omega (arith, keep-parts p l)
 
   -- at most n for each
@@ -315,7 +315,7 @@ sorted-length [] = refl
 sorted-length (r ∷ rs) = insertRef-length r (sorted rs) ∙ ap suc (sorted-length rs)
 
 -- what is compared on one side only
-compared-most : (extents : List ℕ) (fs gs : List Fields) → length (minus (refsAmong extents fs) (refsAmong extents gs)) ≤ length fs
+pub compared-most : (extents : List ℕ) (fs gs : List Fields) → length (minus (refsAmong extents fs) (refsAmong extents gs)) ≤ length fs
 compared-most extents fs gs =
     let ks : List Fields = keep (among extents) fs in
     omega (arith, minus-most (refsAmong extents fs) (refsAmong extents gs), sorted-length (map refOf ks), length-map ks refOf, keep-most (among extents) fs)

@@ -1,11 +1,12 @@
 -- A segment through its steps: items put in, and joins. Assumes nothing.
 use mathlib.Core.Path.{_≡_, refl, ap, _∙_, sym}
-use mathlib.Core.Bool.{Bool, true, false, true≢false}
+use mathlib.Core.Bool.{Bool, true, false, not, true≢false}
 use mathlib.Core.List.{List, [], _∷_, _++_}
 use Prim.Native.Nat.{ℕ, _+_, _<_, _≤_, _^_}
 use native.Mathlib.Omega.{arith}
 use borrow.Author.Tests.{le-leb}
 use Rattle.records.specs.Select.{only}
+use Rattle.records.proofs.Tests.{both-left}
 use Rattle.item.specs.Items.{Fields, items, end}
 use Rattle.cut.specs.Pieces.{Piece, insert, insertAll, cutPieces}
 use Rattle.cut.specs.Joins.{joinAround, joinAll}
@@ -14,12 +15,13 @@ use Rattle.segment.specs.Segments.{Good, Around, Cutting, Inserted, Joining, it
 use Rattle.segment.proofs.Inserting.{inserted-pieces, inserted-good, inserted-around, inserted-first, inserted-lower}
 use Rattle.segment.proofs.Joining.{joining-around}
 use Rattle.request.specs.declared.Volume.{Volume}
+use Rattle.request.specs.declared.File.{File}
 use Rattle.change.specs.declared.Rewrite.{Rewrite}
 use Rattle.change.specs.declared.RangeChange.{RangeChange}
 use Rattle.rewrites.specs.declared.Holder.{Holder}
 use Rattle.changing.specs.declared.Parts.{Parts}
-use Rattle.changing.specs.Raw.{PutIf, JoinedIf, Made, Inside, Ready, partItem}
-use Rattle.changing.specs.Sides.{sides, joinedPieces}
+use Rattle.changing.specs.Raw.{PutIf, JoinedIf, Made, Within, Inside, Ready, partItem, newItem}
+use Rattle.changing.specs.Sides.{frontNew, backNew, sides, joinedPieces, afterPieces}
 
 -- ---- one or none
 
@@ -126,7 +128,7 @@ join-two g [] ys ps = refl
 join-two g (x ∷ xs) ys ps = join-two g xs ys (joinAround g x ps)
 
 pub part-inside : (v : Volume) (c : RangeChange) (r : Rewrite) (h : Holder) → Inside v c r h → (c .lo ≤ partItem v r h .key) × (partItem v r h .key < c .hi) × (end (partItem v r h) ≤ 2 ^ 63)
-part-inside v c r h i = (i .low, omega (arith, i .some, i .high), omega (arith, i .high, i .limit))
+part-inside v c r h i = let w = i .within in (w .low, omega (arith, w .some, w .high), omega (arith, w .high, w .limit))
 
 module _ (v : Volume) (c : RangeChange) (p : Parts) (list : List ℕ) (ready : Ready v c p list) (s : Segment) (b : List ℕ) (cut : Cutting (c .lo) (c .hi) list s b) where
   module _ (s1 : Segment) (b1 : List ℕ) (p1 : PutIf (p .front .found) (partItem v (c .front) (p .front)) s b s1 b1) where
@@ -163,3 +165,18 @@ module _ (v : Volume) (c : RangeChange) (p : Parts) (list : List ℕ) (ready : R
         made-all s4 b4 j2 =
             rw (join-two (v .generation + 1) (only (p .front .found) (c .front .sector)) (only (p .back .found) (c .back .sector)) written)
             (made-join _ (c .lo) (c .hi) 4 list (p .back .found) (v .generation + 1) (c .back .sector) s3 b3 s4 b4 made3 j2)
+
+-- ---- and with the new items
+
+module _ (v : Volume) (f : File) (c : RangeChange) (p : Parts) (x y : ℕ) (list : List ℕ) (ready : Ready v c p list) (s : Segment) (b : List ℕ) (m : Made (joinedPieces v c p (items list)) (c .lo) (c .hi) 4 list s b) where
+  new-inside : (r : Rewrite) (place : ℕ) → Within v c r → (c .lo ≤ newItem v f r place .key) × (newItem v f r place .key < c .hi) × (end (newItem v f r place) ≤ 2 ^ 63)
+  new-inside r place w = (w .low, omega (arith, w .some, w .high), omega (arith, w .high, w .limit))
+
+  module _ (s1 : Segment) (b1 : List ℕ) (p1 : PutIf (frontNew c p) (newItem v f (c .front) x) s b s1 b1) where
+    pub new1 : Made (insertAll (only (frontNew c p) (newItem v f (c .front) x)) (joinedPieces v c p (items list))) (c .lo) (c .hi) 5 list s1 b1
+    new1 = made-put _ (c .lo) (c .hi) 4 list (frontNew c p) (newItem v f (c .front) x) s b s1 b1 m p1 (λ t. new-inside (c .front) x (ready .«new-front» (both-left (c .«has_front») (not (p .front .found)) t)))
+
+    pub new-all : (s2 : Segment) (b2 : List ℕ) → PutIf (backNew c p) (newItem v f (c .back) y) s1 b1 s2 b2 → Made (afterPieces v f c p x y (items list)) (c .lo) (c .hi) 6 list s2 b2
+    new-all s2 b2 p2 =
+        rw (insert-two (only (frontNew c p) (newItem v f (c .front) x)) (only (backNew c p) (newItem v f (c .back) y)) (joinedPieces v c p (items list)))
+        (made-put _ (c .lo) (c .hi) 5 list (backNew c p) (newItem v f (c .back) y) s1 b1 s2 b2 new1 p2 (λ t. new-inside (c .back) y (ready .«new-back» (both-left (c .«has_back») (not (p .back .found)) t))))

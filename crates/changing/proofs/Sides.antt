@@ -8,6 +8,7 @@ use native.Mathlib.Omega.{arith}
 use lib.Dec.{eqb}
 use lib.ListN.{length, length-append}
 use Rattle.records.specs.Select.{only, keep, any}
+use Rattle.records.proofs.Picks.{keep-append, only-few}
 use Rattle.item.specs.Items.{Fields, fields, regularItem, hole}
 use Rattle.refs.specs.Drops.{Held}
 use Rattle.plan.specs.Plans.{Add, Write}
@@ -21,15 +22,6 @@ use Rattle.rewrites.specs.Raw.{heldIn, holderIn}
 use Rattle.changing.specs.declared.Parts.{Parts}
 use Rattle.changing.specs.Raw.{Parting}
 use Rattle.changing.specs.Sides.{frontNew, backNew, sides, wantedAt, newAt, addOf, writeAt}
-
-keep-append : {A : Type 0} (p : A → Bool) (l m : List A) → keep p (l ++ m) ≡ keep p l ++ keep p m
-unfolding keep
-keep-append p [] m = refl
-keep-append {A} p (a ∷ l) m = go (p a) (keep-append p l m)
-  where
-    go : (b : Bool) → keep p (l ++ m) ≡ keep p l ++ keep p m → cond b (a ∷ keep p (l ++ m)) (keep p (l ++ m)) ≡ cond b (a ∷ keep p l) (keep p l) ++ keep p m
-    go true e = ap (λ (k : List A). a ∷ k) e
-    go false e = e
 
 -- ---- one sector
 
@@ -123,10 +115,6 @@ module _ (g : Ground) (c : RangeChange) (size : ℕ) (p : Parts) (part : Parting
       (ways (λ a b. any (λ (w : Wanted). eqb (w .kind) 2) (sides a b (wantedAt g (c .front)) (wantedAt g (c .back))) ≡ false) refl refl refl refl (frontNew c p) (backNew c p))
 
 -- ---- how many
-
-pub only-few : {A : Type 0} (b : Bool) (x : A) → length (only b x) ≤ 1
-only-few true x = omega arith
-only-few false x = omega arith
 
 pub sides-few : {A : Type 0} (a b : Bool) (x y : A) → length (sides a b x y) ≤ 2
 sides-few a b x y = rw (length-append (only a x) (only b y)) (omega (arith, only-few a x, only-few b y))

@@ -4,7 +4,7 @@ use mathlib.Core.List.{List}
 use mathlib.Core.Option.{none}
 use mathlib.Core.Path.{_≡_}
 use Prim.Native.Nat.{ℕ, _+_, _<_, _≤_, _^_}
-use Rattle.item.specs.Items.{Fields, fields, items, writtenInPlace}
+use Rattle.item.specs.Items.{Fields, fields, items, writtenInPlace, regularItem}
 use Rattle.lists.specs.Lists.{rangeSound}
 use Rattle.cut.specs.Mappings.{holds}
 use Rattle.cut.specs.Pieces.{Piece}
@@ -12,6 +12,7 @@ use Rattle.segment.specs.declared.Segment.{Segment}
 use Rattle.segment.specs.Segments.{Runs, Good, Around, Inserted, Joining, pieces}
 use Rattle.refs.specs.Drops.{Held}
 use Rattle.request.specs.declared.Volume.{Volume}
+use Rattle.request.specs.declared.File.{File}
 use Rattle.change.specs.declared.Rewrite.{Rewrite}
 use Rattle.change.specs.declared.RangeChange.{RangeChange}
 use Rattle.change.specs.Rewrites.{preallocatedIn, positionOf}
@@ -43,21 +44,31 @@ pub record Made (ps : List Piece) (lo hi n : ℕ) (list : List ℕ) (s : Segment
   pub good : Good list s seg
   pub around : (k : ℕ) → lo ≤ k → k < hi → Around k list s
 
--- a sector that is written in place lies in what is cut, and in the item that holds it
-pub record Inside (v : Volume) (c : RangeChange) (r : Rewrite) (h : Holder) : Type 0 where
-  pub sound : rangeSound (fields (h .item)) ≡ true
-  pub holds : holds (r .sector) (fields (h .item)) ≡ true
+-- a sector lies in what is cut
+pub record Within (v : Volume) (c : RangeChange) (r : Rewrite) : Type 0 where
   pub low : c .lo ≤ r .sector
   pub some : 0 < v .sector
   pub high : r .sector + v .sector ≤ c .hi
   pub limit : c .hi ≤ 2 ^ 63
+
+-- and in the item that holds it, if it is written in place
+pub record Inside (v : Volume) (c : RangeChange) (r : Rewrite) (h : Holder) : Type 0 where
+  pub sound : rangeSound (fields (h .item)) ≡ true
+  pub holds : holds (r .sector) (fields (h .item)) ≡ true
+  pub within : Within v c r
 
 pub record Ready (v : Volume) (c : RangeChange) (p : Parts) (list : List ℕ) : Type 0 where
   pub runs : Runs 0 (items list)
   pub generation : v .generation + 1 < 2 ^ 64
   pub front : p .front .found ≡ true → Inside v c (c .front) (p .front)
   pub back : p .back .found ≡ true → Inside v c (c .back) (p .back)
+  pub «new-front» : c .«has_front» ≡ true → Within v c (c .front)
+  pub «new-back» : c .«has_back» ≡ true → Within v c (c .back)
 
 -- the item over a sector that is written in place
 abbrev pub partItem : Volume → Rewrite → Holder → Fields
 partItem v r h = writtenInPlace (fields (h .item)) (r .sector) (v .generation + 1) (positionOf r (heldIn h)) (v .sector)
+
+-- the item over a sector that takes a new extent
+abbrev pub newItem : Volume → File → Rewrite → ℕ → Fields
+newItem v f r place = regularItem (f .number) (r .sector) (v .generation + 1) place (v .sector)

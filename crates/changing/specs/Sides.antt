@@ -1,15 +1,26 @@
 -- The two sectors of a change, front and back: what each has of the plan's lists, if it is there.
-use mathlib.Core.Bool.{Bool, true, _&&_, not}
-use mathlib.Core.List.{List, _++_}
+use mathlib.Core.Bool.{Bool, true, cond, _&&_, not}
+use mathlib.Core.List.{List, [], _∷_, _++_, map}
 use mathlib.Core.Path.{_≡_}
-use Prim.Native.Nat.{ℕ, _+_, _<_, _^_}
-use Rattle.records.specs.Select.{only}
+use Prim.Native.Nat.{ℕ, _+_, _-_, _<_, _^_}
+use lib.ListN.{take, drop}
+use Rattle.records.specs.Select.{only, keep}
 use Rattle.item.specs.Items.{Fields, fields, regularItem}
 use Rattle.lists.specs.Lists.{rangeSound}
 use Rattle.cut.specs.Mappings.{holds}
-use Rattle.cut.specs.Pieces.{Piece, insertAll, cutPieces}
+use Rattle.cut.specs.Pieces.{Piece, insertAll, cutPieces, countedBytes}
 use Rattle.cut.specs.Joins.{joinAll}
 use Rattle.request.specs.declared.Volume.{Volume}
+use Rattle.request.specs.declared.File.{File}
+use Rattle.table.specs.declared.Row.{Row}
+use Rattle.cut.specs.Cuts.{split}
+use Rattle.cut.specs.Refs.{Ref, refOf}
+use Rattle.segment.specs.declared.Segment.{Segment}
+use Rattle.refs.specs.Compared.{refsAmong, minus}
+use Rattle.refs.specs.Drops.{unrefs}
+use Rattle.drops.specs.declared.Cut.{Cut}
+use Rattle.drops.specs.Dropped.{dropsIn}
+use Rattle.edits.specs.Splits.{elsewhere}
 use Rattle.plan.specs.Plans.{Add, Write}
 use Rattle.plan.specs.Places.{Wanted}
 use Rattle.change.specs.declared.Rewrite.{Rewrite}
@@ -18,7 +29,7 @@ use Rattle.change.specs.Rewrites.{Ground, newGeneration, positionOf, writeInPla
 use Rattle.rewrites.specs.declared.Holder.{Holder}
 use Rattle.rewrites.specs.Raw.{heldIn}
 use Rattle.changing.specs.declared.Parts.{Parts}
-use Rattle.changing.specs.Raw.{partItem}
+use Rattle.changing.specs.Raw.{partItem, newItem}
 
 -- whether a side takes a new extent: it is rewritten, and not in place
 abbrev pub frontNew : RangeChange → Parts → Bool
@@ -61,3 +72,36 @@ abbrev pub joinedPieces : Volume → RangeChange → Parts → List Fields → L
 joinedPieces v c p fs =
     joinAll (v .generation + 1) (sides (p .front .found) (p .back .found) (c .front .sector) (c .back .sector))
     (insertAll (sides (p .front .found) (p .back .found) (partItem v (c .front) (p .front)) (partItem v (c .back) (p .back))) (cutPieces (c .lo) (c .hi) fs))
+
+-- and with the new items, at their places
+abbrev pub afterPieces : Volume → File → RangeChange → Parts → ℕ → ℕ → List Fields → List Piece
+afterPieces v f c p x y fs = insertAll (sides (frontNew c p) (backNew c p) (newItem v f (c .front) x) (newItem v f (c .back) y)) (joinedPieces v c p fs)
+
+-- what is cut, and the extents of the sectors written in place; 0: none
+abbrev pub cutOf : RangeChange → Parts → Cut
+cutOf c p =
+    record {
+      lo = c .lo;
+      hi = c .hi;
+      one = cond (p .front .found) (fields (p .front .item) .extentStart) 0;
+      two = cond (p .back .found) (fields (p .back .item) .extentStart) 0;
+    }
+
+-- ---- lines of references: k is what is cut, s the segment that replaces records s .from up to s .to of fs
+
+abbrev pub middle : List Fields → Segment → List Fields
+middle fs s = take (s .to - s .from) (drop (s .from) fs)
+
+abbrev pub comparedOf : Cut → (before after : List Fields) → List Ref
+comparedOf k before after = minus (refsAmong (k .one ∷ k .two ∷ []) after) (refsAmong (k .one ∷ k .two ∷ []) before)
+
+abbrev pub sharesOf : Cut → List Fields → Segment → List Fields → List Ref
+sharesOf k fs s segment = keep (elsewhere (k .one ∷ k .two ∷ [])) (map refOf (keep (split (k .lo) (k .hi)) fs)) ++ comparedOf k (middle fs s) segment
+
+abbrev pub unrefsOf : Cut → List Row → List Fields → List ℕ → Segment → List Fields → List Ref
+unrefsOf k rows fs shared s segment = comparedOf k segment (middle fs s) ++ unrefs rows (dropsIn k fs shared)
+
+-- ---- bytes
+
+abbrev pub bytesOf : List Fields → Segment → List Fields → ℕ
+bytesOf fs s segment = countedBytes (take (s .from) fs) + (countedBytes segment + countedBytes (drop (s .to) fs))

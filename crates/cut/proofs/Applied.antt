@@ -1,23 +1,25 @@
 -- The edits of a plan, applied to the file's items, give the plan's pieces. Assumes nothing.
 use mathlib.Core.Path.{_≡_, refl, ap, ap₂, _∙_, sym}
 use mathlib.Core.Bool.{Bool, true, false, cond, _||_, not}
-use mathlib.Core.List.{List, [], _∷_, _++_, append-assoc, map, flatMap, tail, List·Memᴰ, List·Memᴰ·head, List·Memᴰ·tail, List·Memᴰ·cases-cons}
+use mathlib.Core.List.{List, [], _∷_, _++_, map, flatMap, tail, List·Memᴰ, List·Memᴰ·head, List·Memᴰ·tail, List·Memᴰ·cases-cons}
 use mathlib.Core.Logic.{⊎-elim}
 use Prim.Native.Nat.{ℕ, suc, _+_, _<_, _≤_}
 use native.Mathlib.Omega.{arith}
 use native.Mathlib.Decide.{decLt}
-use lib.Dec.{eqb, ltb}
+use lib.Dec.{ltb}
 use lib.ListN.{length}
 use borrow.Author.Tests.{ltb-true, lt-ltb, le-ltb, eq-eqb, ne-eqb}
 use Rattle.records.specs.Select.{only, keep, any}
 use Rattle.records.specs.Stages.{every, pairs}
 use Rattle.records.proofs.Tests.{both, both-left, both-right}
+use Rattle.records.proofs.Lists.{every-mapped}
 use Rattle.item.specs.Items.{Fields, joined}
 use Rattle.lists.specs.Lists.{rises}
 use Rattle.cut.specs.Cuts.{cut, touched}
 use Rattle.cut.specs.Pieces.{Piece, made, kept, itemsOf, cutPieces, insert, insertAll}
 use Rattle.cut.specs.Joins.{joinable, joinNext, past, joinAround, joinAll}
-use Rattle.cut.specs.Edits.{Edit, put, delete, below, edits, keyOf, putOf, edited, itemsAfter}
+use Rattle.cut.specs.Edits.{Edit, put, delete, edits, keyOf, putOf, edited, itemsAfter}
+use Rattle.cut.proofs.Cases.{over, putsOf, edits-gone, edits-first, edits-same}
 
 -- ---- rising keys
 
@@ -166,44 +168,12 @@ from-tail f fs (p ∷ ps) b h u r = (source-tail (omega arith) (r .0), from-tail
 
 -- ---- the edits by cases
 
--- what a piece puts
-abbrev putsOf : Piece → List Edit
-putsOf p = only (p .made) (put (p .item))
+-- items and pieces behind k
+items-past : (k : ℕ) (fs : List Fields) → ItemsUp (suc k) fs → every (λ (f : Fields). ltb k (f .key)) fs ≡ true
+items-past k fs u = above (λ (f : Fields). f .key) k (suc k) fs (omega arith) u
 
--- of pieces from k on none lies below k, and of those behind k none at k
-none-below : (k b : ℕ) (ps : List Piece) → k ≤ b → ItemsUp b (itemsOf ps) → keep (below k) ps ≡ []
-unfolding keep
-none-below k b [] h u = refl
-none-below k b (p ∷ ps) h u = rw (le-ltb (p .item .key) k (omega arith)) (none-below k (suc (p .item .key)) ps (omega arith) (u .1))
-
-all-from : (k b : ℕ) (ps : List Piece) → k ≤ b → ItemsUp b (itemsOf ps) → keep (λ (p : Piece). not (below k p)) ps ≡ ps
-unfolding keep
-all-from k b [] h u = refl
-all-from k b (p ∷ ps) h u = rw (le-ltb (p .item .key) k (omega arith)) (ap (λ (l : List Piece). p ∷ l) (all-from k (suc (p .item .key)) ps (omega arith) (u .1)))
-
-none-at : (k b : ℕ) (ps : List Piece) → k < b → ItemsUp b (itemsOf ps) → any (λ (p : Piece). eqb (p .item .key) k) ps ≡ false
-unfolding any
-none-at k b [] h u = refl
-none-at k b (p ∷ ps) h u = rw (ne-eqb (p .item .key) k (λ e. omega arith)) (none-at k (suc (p .item .key)) ps (omega arith) (u .1))
-
--- a piece before all old items, an old item before all pieces, and both at one key
-edits-first : (fs : List Fields) (p : Piece) (ps : List Piece) → ItemsUp (suc (p .item .key)) fs → edits fs (p ∷ ps) ≡ putsOf p ++ edits fs ps
-unfolding edits flatMap keep any
-edits-first [] p ps u = refl
-edits-first (f ∷ fs) p ps u = rw (lt-ltb (p .item .key) (f .key) (u .0), ne-eqb (p .item .key) (f .key) (λ e. omega arith)) (append-assoc (putsOf p) _ _)
-
-edits-gone : (f : Fields) (fs : List Fields) (ps : List Piece) → ItemsUp (suc (f .key)) (itemsOf ps) → edits (f ∷ fs) ps ≡ delete (f .key) ∷ edits fs ps
-unfolding edits flatMap
-edits-gone f fs ps u =
-    let k : ℕ = f .key in
-    rw (none-below k (suc k) ps (omega arith) u, all-from k (suc k) ps (omega arith) u, none-at k (suc k) ps (omega arith) u) refl
-
-edits-same : (f : Fields) (fs : List Fields) (p : Piece) (ps : List Piece) → f .key ≡ p .item .key → ItemsUp (suc (p .item .key)) (itemsOf ps) → edits (f ∷ fs) (p ∷ ps) ≡ edits fs (p ∷ ps)
-unfolding edits flatMap any
-edits-same f fs p ps e u =
-    let k : ℕ = f .key in
-    let v : ItemsUp k (itemsOf (p ∷ ps)) = (omega arith, u) in
-    rw (none-below k k (p ∷ ps) (omega arith) v, all-from k k (p ∷ ps) (omega arith) v, eq-eqb (p .item .key) k (sym e)) refl
+pieces-past : (k : ℕ) (ps : List Piece) → ItemsUp (suc k) (itemsOf ps) → every (over k) ps ≡ true
+pieces-past k ps u = sym (every-mapped (λ (f : Fields). ltb k (f .key)) (λ (p : Piece). p .item) ps) ∙ items-past k (itemsOf ps) u
 
 -- old items and pieces by rising keys from b on, and the edits between them: the lowest key is that of an old item that
 -- is gone, of a piece alone, or of both
@@ -214,16 +184,16 @@ data Merged : ℕ → List Fields → List Piece → List Edit → Type 0 where
   same : {b : ℕ} {f : Fields} {fs : List Fields} {p : Piece} {ps : List Piece} {es : List Edit} → b ≤ p .item .key → f .key ≡ p .item .key → Merged (suc (p .item .key)) fs ps es → Merged b (f ∷ fs) (p ∷ ps) (putsOf p ++ es)
 
 merged-next : (f : Fields) (fs : List Fields) → ((ps : List Piece) (b : ℕ) → ItemsUp b fs → ItemsUp b (itemsOf ps) → Merged b fs ps (edits fs ps)) → (ps : List Piece) (b : ℕ) → ItemsUp b (f ∷ fs) → ItemsUp b (itemsOf ps) → Merged b (f ∷ fs) ps (edits (f ∷ fs) ps)
-merged-next f fs ih [] b u v = rw (edits-gone f fs [] tt) (gone (u .0) (ih [] (suc (f .key)) (u .1) tt))
+merged-next f fs ih [] b u v = rw (edits-gone f fs [] (pieces-past (f .key) [] tt)) (gone (u .0) (ih [] (suc (f .key)) (u .1) tt))
 merged-next f fs ih (p ∷ ps) b u v =
     elim (decLt (f .key) (p .item .key)) [
-      | yes l ↦ rw (edits-gone f fs (p ∷ ps) (l, v .1)) (gone (u .0) (ih (p ∷ ps) (suc (f .key)) (u .1) (l, v .1)))
+      | yes l ↦ rw (edits-gone f fs (p ∷ ps) (pieces-past (f .key) (p ∷ ps) (l, v .1))) (gone (u .0) (ih (p ∷ ps) (suc (f .key)) (u .1) (l, v .1)))
       | no m ↦ elim (decLt (p .item .key) (f .key)) [
-        | yes l ↦ rw (edits-first (f ∷ fs) p ps (l, u .1)) (first (v .0) (merged-next f fs ih ps (suc (p .item .key)) (l, u .1) (v .1)))
+        | yes l ↦ rw (edits-first (f ∷ fs) p ps (items-past (p .item .key) (f ∷ fs) (l, u .1))) (first (v .0) (merged-next f fs ih ps (suc (p .item .key)) (l, u .1) (v .1)))
         | no n ↦
             let e : f .key ≡ p .item .key = omega arith in
             let w : ItemsUp (suc (p .item .key)) fs = rw e at (u .1) in
-            rw (edits-same f fs p ps e (v .1), edits-first fs p ps w) (same (v .0) e (ih ps (suc (p .item .key)) w (v .1)))
+            rw (edits-same f fs p ps e (rw e (pieces-past (p .item .key) ps (v .1))), edits-first fs p ps (items-past (p .item .key) fs w)) (same (v .0) e (ih ps (suc (p .item .key)) w (v .1)))
       ]
     ]
 
@@ -232,7 +202,7 @@ merged [] ps b u v = merged-new ps b v
   where
     merged-new : (ps : List Piece) (b : ℕ) → ItemsUp b (itemsOf ps) → Merged b [] ps (edits [] ps)
     merged-new [] b v = unfold edits flatMap in done
-    merged-new (p ∷ ps) b v = rw (edits-first [] p ps tt) (first (v .0) (merged-new ps (suc (p .item .key)) (v .1)))
+    merged-new (p ∷ ps) b v = rw (edits-first [] p ps (items-past (p .item .key) [] tt)) (first (v .0) (merged-new ps (suc (p .item .key)) (v .1)))
 merged (f ∷ fs) ps b u v = merged-next f fs (merged fs) ps b u v
 
 -- ---- what holds of edits so merged

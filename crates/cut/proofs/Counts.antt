@@ -17,7 +17,7 @@ use Rattle.cut.specs.Cuts.{front, back, cut, touched, covered, split}
 use Rattle.cut.specs.Pieces.{Piece, made, kept, itemsOf, cutPieces, insert, insertAll}
 use Rattle.cut.specs.Joins.{joinable, joinNext, past, joinAround, joinAll}
 use Rattle.cut.specs.Mappings.{named}
-use Rattle.cut.proofs.Mappings.{Joint, joint}
+use Rattle.cut.proofs.Mappings.{joint}
 use Rattle.cut.specs.Refs.{Ref, refOf, sameRef, names, refers, naming, referring, refPasses}
 
 -- ---- a test that the pieces of a cut item pass as the item does, and that no hole passes

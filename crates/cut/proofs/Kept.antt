@@ -15,7 +15,7 @@ use Rattle.item.specs.Items.{Fields, ranged, hole, end, windowed, joined}
 use Rattle.lists.specs.Lists.{itemSound, rangeSound, rises, apart, whole}
 use Rattle.lists.proofs.Order.{Ranged, item-ranged}
 use Rattle.lists.proofs.Laws.{Kept, kept-head, kept-tail, item-file, whole-facts}
-use mathlib.Core.Option.{Option, none, some}
+use mathlib.Core.Option.{none, some}
 use Rattle.cut.specs.Cuts.{front, back}
 use Rattle.cut.specs.Mappings.{holds, mappingIn, mapping}
 use Rattle.cut.specs.Pieces.{Piece, made, itemsOf, cutPieces, insert, insertAll}
@@ -230,7 +230,7 @@ whole-cut sector lo hi fs l h e = every-cut lo hi (whole sector) (whole sector) 
 abbrev pub clear : ℕ → ℕ → Fields → Bool
 clear lo hi f = leb (end f) lo || leb hi (f .key)
 
-is-clear : (lo hi : ℕ) (f : Fields) → (end f ≤ lo) ⊎ (hi ≤ f .key) → clear lo hi f ≡ true
+pub is-clear : (lo hi : ℕ) (f : Fields) → (end f ≤ lo) ⊎ (hi ≤ f .key) → clear lo hi f ≡ true
 is-clear lo hi f (inl h) = either-left (leb (end f) lo) (leb hi (f .key)) (le-leb (end f) lo h)
 is-clear lo hi f (inr h) = either-right (leb (end f) lo) (leb hi (f .key)) (le-leb hi (f .key) h)
 

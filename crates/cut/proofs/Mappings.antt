@@ -11,7 +11,7 @@ use lib.Dec.{eqb, leb, ltb}
 use borrow.Author.Tests.{eqb-true, leb-true, ltb-true, ltb-false, le-leb, lt-ltb, not-true}
 use Rattle.records.specs.Select.{only}
 use Rattle.records.specs.Stages.{every}
-use Rattle.records.proofs.Tests.{both, both-left, both-right, same}
+use Rattle.records.proofs.Tests.{both, both-left, both-right, same, never}
 use Rattle.item.specs.Items.{Fields, end, reference, joined}
 use Rattle.cut.specs.Cuts.{front, back, cut, touched}
 use Rattle.cut.specs.Mappings.{named, holds, Mapping, mappingIn, mapping}
@@ -78,10 +78,6 @@ items-cut lo hi f fs =
     go false = refl
 
 -- ---- one item
-
-never : (b : Bool) → (b ≡ true → ⊥) → b ≡ false
-never true h = absurd (h refl)
-never false h = refl
 
 -- what holding an offset says
 record Held (o : ℕ) (f : Fields) : Type 0 where

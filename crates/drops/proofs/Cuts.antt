@@ -1,40 +1,17 @@
 -- Which drops a cut without extents written in place has, or with one. Assumes nothing.
-use mathlib.Core.Path.{_≡_, refl, ap, _∙_, sym}
-use mathlib.Core.Bool.{Bool, true, false, _&&_, not}
+use mathlib.Core.Path.{_≡_, ap, _∙_, sym}
+use mathlib.Core.Bool.{Bool, _&&_, not, and-true}
 use mathlib.Core.List.{List, [], _∷_}
 use Prim.Native.Nat.{ℕ}
 use Rattle.records.specs.Select.{keep, any}
-use Rattle.item.specs.Items.{Fields, ranged, hole}
+use Rattle.records.proofs.Picks.{keep-same}
+use Rattle.item.specs.Items.{Fields, hole}
 use Rattle.cut.specs.Cuts.{covered}
-use Rattle.cut.specs.Refs.{names}
 use Rattle.refs.specs.Compared.{among}
 use Rattle.refs.specs.Drops.{Held, held}
+use Rattle.refs.proofs.Among.{among-none}
 use Rattle.drops.specs.declared.Cut.{Cut}
 use Rattle.drops.specs.Dropped.{dropped, dropsIn}
-use Rattle.drops.proofs.Tallies.{and-true}
-
--- no item names the extent at 0
-names-zero : (f : Fields) → names 0 f ≡ false
-names-zero f = go (ranged f) (hole f)
-  where
-    go : (r h : Bool) → ((r && not h) && h) ≡ false
-    go false h = refl
-    go true true = refl
-    go true false = refl
-
--- so 0 stands for none
-pub among-none : (f : Fields) → among [] f ≡ among (0 ∷ 0 ∷ []) f
-unfolding any
-among-none f = rw (names-zero f) refl
-
-pub among-one : (s : ℕ) (f : Fields) → among (s ∷ []) f ≡ among (s ∷ 0 ∷ []) f
-unfolding any
-among-one s f = rw (names-zero f) refl
-
-keep-same : {A : Type 0} (p q : A → Bool) → ((a : A) → p a ≡ q a) → (l : List A) → keep p l ≡ keep q l
-unfolding keep
-keep-same p q h [] = refl
-keep-same p q h (a ∷ l) = rw (h a, keep-same p q h l) refl
 
 -- the drops of a cut, with the extents in any list that says the same
 pub drops-among : (c : Cut) (extents : List ℕ) → ((f : Fields) → among extents f ≡ among (c .one ∷ c .two ∷ []) f) → (fs : List Fields) (bs : List ℕ)

@@ -1,11 +1,11 @@
 -- The lines of drops, row by row and item by item, and how many there are. Assumes nothing.
 use mathlib.Core.Path.{_≡_, refl, ap, _∙_, sym}
-use mathlib.Core.Bool.{Bool, true, false, cond, _&&_, not}
+use mathlib.Core.Bool.{Bool, true, false, cond, not, and-true, and-false}
 use mathlib.Core.List.{List, [], _∷_, _++_, map, flatMap}
-use Prim.Native.Nat.{ℕ, suc, _+_, _≤_}
+use Prim.Native.Nat.{ℕ, _+_, _≤_}
 use native.Mathlib.Omega.{arith}
 use lib.Dec.{eqb, leb}
-use lib.ListN.{length, length-append}
+use lib.ListN.{length, length-append, length-map}
 use borrow.Author.Tests.{eq-eqb, ne-eqb, eqb-true, le-leb, leb-true, leb-false}
 use Rattle.records.specs.Select.{keep, count, only}
 use Rattle.records.specs.Stages.{every, pairs}
@@ -22,7 +22,7 @@ use Rattle.refs.proofs.Drops.{drops-number, held-length}
 use Rattle.drops.specs.declared.Cut.{Cut}
 use Rattle.drops.specs.Dropped.{taken, dropped, dropsIn}
 use Rattle.drops.specs.Raw.{dropOf, lineOf, rowLines}
-use Rattle.drops.proofs.Tallies.{and-true, ofExtent, drops-of}
+use Rattle.drops.proofs.Tallies.{ofExtent, drops-of}
 
 -- ---- the lines of one extent: the shared bytes do not count
 
@@ -44,11 +44,7 @@ module _ (c : Cut) (start : ℕ) where
   -- whether an item is a drop of the extent, by its start first
   module _ (f : Fields) (s : ℕ) (e : s ≡ f .extentStart) where
     pub other-extent : (s ≡ start → ⊥) → false ≡ dropOf c start f
-    other-extent h = rw (ne-eqb (f .extentStart) start (rw e at h)) (sym (go (taken c f)))
-      where
-        go : (b : Bool) → (b && false) ≡ false
-        go true = refl
-        go false = refl
+    other-extent h = rw (ne-eqb (f .extentStart) start (rw e at h)) (sym (and-false (taken c f)))
 
     pub own-extent : s ≡ start → taken c f ≡ dropOf c start f
     own-extent h = rw (eq-eqb (f .extentStart) start (sym e ∙ h)) (sym (and-true (taken c f)))
@@ -95,12 +91,8 @@ module _ (ds : List Held) where
 
   -- a drop gives a line of one kind or the other
   row-most : (row : Row) → length (rowLines true ds row) + length (rowLines false ds row) ≡ count (λ (d : Held). eqb (d .item .extentStart) (row .start)) ds
-  row-most row = go (released ds row) ∙ mapped (dropsOf (row .start) ds) ∙ drops-number (row .start) ds
+  row-most row = go (released ds row) ∙ length-map (dropsOf (row .start) ds) (λ (d : Held). refOf (d .item)) ∙ drops-number (row .start) ds
     where
-      mapped : (l : List Held) → length (map (λ (d : Held). refOf (d .item)) l) ≡ length l
-      mapped [] = refl
-      mapped (d ∷ l) = ap suc (mapped l)
-
       go : (u : Bool) → length (cond u (lines (row .start) ds) []) + length (cond u [] (lines (row .start) ds)) ≡ length (lines (row .start) ds)
       go true = omega arith
       go false = omega arith

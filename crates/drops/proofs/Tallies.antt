@@ -1,57 +1,22 @@
 -- Whether an extent is released, item by item. Assumes nothing.
 use mathlib.Core.Path.{_≡_, refl, _∙_, sym}
-use mathlib.Core.Bool.{Bool, true, false, cond, _&&_, _||_, not}
-use mathlib.Core.List.{List, [], _∷_}
+use mathlib.Core.Bool.{Bool, true, false, cond, _&&_, _||_, not, and-true, and-assoc}
+use mathlib.Core.List.{List, _∷_}
 use Prim.Native.Nat.{ℕ, _+_, _*_, _<_, _≤_}
 use native.Mathlib.Omega.{arith}
-use native.Mathlib.Numerals.{add-one}
 use native.Mathlib.Nat.{add-zero, zero-add}
 use lib.Dec.{eqb}
 use lib.ListN.{length, getD, drop}
-use lib.Seq.{drop-cons}
 use Rattle.records.specs.Select.{keep}
 use Rattle.records.specs.Stages.{every}
-use Rattle.records.proofs.Loops.{rest, rest-cons, rest-nil}
+use Rattle.records.proofs.Picks.{keep-keep}
 use Rattle.item.specs.Items.{Fields, decode}
 use Rattle.table.specs.declared.Row.{Row}
 use Rattle.refs.specs.Drops.{Held, held, dropsOf, released}
+use Rattle.refs.proofs.Helds.{heldRest, held-cons, held-nil}
 use Rattle.drops.specs.declared.Cut.{Cut}
 use Rattle.drops.specs.Dropped.{dropped, dropsIn}
 use Rattle.drops.specs.Raw.{dropOf}
-
-pub and-true : (b : Bool) → (b && true) ≡ b
-and-true true = refl
-and-true false = refl
-
--- picked twice
-pub keep-keep : {A : Type 0} (p q : A → Bool) (l : List A) → keep p (keep q l) ≡ keep (λ (a : A). q a && p a) l
-unfolding keep
-keep-keep p q [] = refl
-keep-keep p q (a ∷ l) = go (q a) (keep-keep p q l)
-  where
-    go : (b : Bool) → keep p (keep q l) ≡ keep (λ a. q a && p a) l → keep p (cond b (a ∷ keep q l) (keep q l)) ≡ cond (b && p a) (a ∷ keep (λ a. q a && p a) l) (keep (λ a. q a && p a) l)
-    go true e = rw e refl
-    go false e = e
-
--- ---- the items of a list with their bytes, for loops over both
-
--- of n items those from i on
-unfoldable pub heldRest : List ℕ → List ℕ → ℕ → ℕ → List Held
-heldRest s bs n i = held (rest decode 70 s n i) (drop i bs)
-
-pub held-all : (s bs : List ℕ) (n : ℕ) (fs : List Fields) → rest decode 70 s n 0 ≡ fs → heldRest s bs n 0 ≡ held fs bs
-unfolding heldRest
-held-all s bs n fs e = rw e refl
-
-held-cons : (s bs : List ℕ) (n i : ℕ) → i < n → n ≡ length bs → heldRest s bs n i ≡ record { item = decode (drop (i * 70) s); shared = getD bs i 0 } ∷ heldRest s bs n (i + 1)
-unfolding heldRest held
-held-cons s bs n i h l =
-    let m : i < length bs = omega arith in
-    rw (rest-cons decode 70 s n i h, drop-cons bs i 0 m, add-one) refl
-
-held-nil : (s bs : List ℕ) (n i : ℕ) → n ≤ i → heldRest s bs n i ≡ []
-unfolding heldRest held
-held-nil s bs n i h = rw (rest-nil decode 70 s n i h) refl
 
 -- ---- how many pass, and whether their leaves are not shared
 
@@ -71,10 +36,6 @@ module _ (p : Held → Bool) (all : List Held) where
   unfolding keep every
   tally-cons d l n b t = go (p d) (t .number) (t .free)
     where
-      and-assoc : (x y z : Bool) → ((x && y) && z) ≡ (x && (y && z))
-      and-assoc true y z = refl
-      and-assoc false y z = refl
-
       go : (x : Bool) → n + length (cond x (d ∷ keep p l) (keep p l)) ≡ length (keep p all) → (b && every unshared (cond x (d ∷ keep p l) (keep p l))) ≡ every unshared (keep p all)
           → Tally p all l (n + cond x 1 0) (b && (not x || unshared d))
       go true e o = record { number = omega arith; free = and-assoc b (unshared d) (every unshared (keep p l)) ∙ o }
@@ -83,7 +44,7 @@ module _ (p : Held → Bool) (all : List Held) where
   -- a turn, from what its calls ensure
   pub tally-turn :
       (s bs : List ℕ) (k i : ℕ) (f : Fields) (n x : ℕ) (b own t b′ : Bool)
-      → i < k → k ≡ length bs → f ≡ decode (drop (i * 70) s)
+      → i < k → i < length bs → f ≡ decode (drop (i * 70) s)
       → own ≡ p (record { item = f; shared = getD bs i 0 })
       → x ≡ cond own 1 0 → t ≡ (not own || eqb (getD bs i 0) 0) → b′ ≡ (b && t)
       → Tally p all (heldRest s bs k i) n b → Tally p all (heldRest s bs k (i + 1)) (n + x) b′

@@ -1,5 +1,3 @@
-pub mod Picks
-pub mod Loops
 pub mod Cases
 pub mod Sizes
 pub mod Replaced

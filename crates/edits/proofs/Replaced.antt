@@ -1,6 +1,6 @@
 -- The edits where a part of a list makes way for others. Assumes nothing.
 use mathlib.Core.Path.{_≡_, refl, ap, _∙_, sym}
-use mathlib.Core.Bool.{Bool, true, not}
+use mathlib.Core.Bool.{Bool, true, not, or-false}
 use mathlib.Core.List.{List, [], _∷_, _++_, append-nil, map, flatMap}
 use Prim.Native.Nat.{ℕ, zero, suc, _-_, _≤_}
 use native.Mathlib.Omega.{arith}
@@ -11,13 +11,14 @@ use lib.Seq.{take-nil}
 use Rattle.records.specs.Select.{only, keep, any}
 use Rattle.records.specs.Stages.{every, pairs}
 use Rattle.records.proofs.Tests.{both-left, both-right, every-keep}
-use Rattle.records.proofs.Lists.{every-append, every-mapped}
+use Rattle.records.proofs.Lists.{every-append, any-appended, every-take, every-drop, every-mapped}
+use Rattle.records.proofs.Picks.{keep-append, keep-mapped}
 use Rattle.item.specs.Items.{Fields}
 use Rattle.lists.specs.Lists.{rises}
 use Rattle.cut.specs.Pieces.{Piece, made, kept, replaced}
 use Rattle.cut.specs.Edits.{Edit, put, delete, puts, below, edits}
-use Rattle.edits.proofs.Picks.{keep-append, any-appended, keep-mapped, every-take, every-drop, or-false}
-use Rattle.edits.proofs.Cases.{over, none-below, all-from, none-at, made-over, edits-first, edits-same}
+use Rattle.cut.proofs.Cases.{over, none-below, all-from, none-at, edits-first, edits-same}
+use Rattle.edits.proofs.Cases.{made-over}
 
 -- each of these lies before each of those
 abbrev pub allRise : List Fields → List Fields → Bool

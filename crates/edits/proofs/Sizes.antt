@@ -5,13 +5,13 @@ use mathlib.Core.List.{List, [], _∷_, map, flatMap}
 use Prim.Native.Nat.{ℕ, _+_, _≤_}
 use native.Mathlib.Omega.{arith}
 use lib.Dec.{eqb, ltb}
-use lib.ListN.{length, length-append}
+use lib.ListN.{length, length-append, length-map}
 use Rattle.records.specs.Select.{only, keep, any}
 use Rattle.records.proofs.Lists.{any-mapped}
+use Rattle.records.proofs.Picks.{keep-mapped, keep-two, only-few, length-only}
 use Rattle.item.specs.Items.{Fields}
 use Rattle.cut.specs.Pieces.{Piece, made}
 use Rattle.cut.specs.Edits.{Edit, put, delete, puts, below, edits}
-use Rattle.edits.proofs.Picks.{keep-mapped, only-few, length-mapped, length-only, keep-two}
 
 -- the number of edits, from the new keys alone
 unfoldable editCount : List Fields → List ℕ → ℕ
@@ -29,7 +29,7 @@ puts-made [] = refl
 puts-made (f ∷ s) = ap (λ (l : List Edit). put f ∷ l) (puts-made s)
 
 length-puts : (s : List Fields) → length (puts (map made s)) ≡ length (keys s)
-length-puts s = ap length (puts-made s) ∙ length-mapped put s ∙ sym (length-mapped (λ f. f .key) s)
+length-puts s = ap length (puts-made s) ∙ length-map s put ∙ sym (length-map s (λ f. f .key))
 
 edits-counted : (fs s : List Fields) → length (edits fs (map made s)) ≡ editCount fs (keys s)
 unfolding edits editCount
@@ -56,4 +56,4 @@ count-few (f ∷ fs) ks =
     omega (arith, keep-two (λ (k : ℕ). ltb k (f .key)) ks, only-few (not (any (λ (k : ℕ). eqb k (f .key)) ks)) f, count-few fs (keep (λ (k : ℕ). not (ltb k (f .key))) ks))
 
 pub few-edits : (fs s : List Fields) → length (edits fs (map made s)) ≤ length fs + length s
-few-edits fs s = omega (arith, edits-counted fs s, count-few fs (keys s), length-mapped (λ (f : Fields). f .key) s)
+few-edits fs s = omega (arith, edits-counted fs s, count-few fs (keys s), length-map s (λ (f : Fields). f .key))

@@ -11,6 +11,7 @@ use lib.ListN.{length, drop, replicate, drop-of-length-le}
 use lib.Seq.{drop-cons}
 use borrow.Author.Tests.{eq-eqb, ne-eqb}
 use Rattle.records.specs.Stages.{pairs}
+use Rattle.records.proofs.Lists.{pairs-drop}
 use Rattle.records.proofs.Loops.{rest, rest-cons, rest-nil}
 use Rattle.endian.specs.Le.{Bytes}
 use Rattle.item.specs.declared.Item.{Item}
@@ -22,12 +23,11 @@ use Rattle.lists.specs.Lists.{rises}
 use Rattle.cut.specs.Pieces.{made, countedBytes}
 use Rattle.cut.specs.Edits.{Edit, put, delete, edits}
 use Rattle.plan.specs.Outputs.{editBytes}
-use Rattle.lines.specs.Lines.{Laid, lay}
+use Rattle.lines.specs.Lines.{Laid}
 use Rattle.edits.specs.Splits.{counted}
 use Rattle.lines.proofs.Laws.{Going, going-turn, going-done}
 use Rattle.edits.specs.declared.Place.{Place}
 use Rattle.edits.specs.Merge.{gone, behind, from, editsFrom, Ready, Stepped}
-use Rattle.edits.proofs.Picks.{pairs-drop}
 use Rattle.edits.proofs.Cases.{merge-gone, merge-put}
 
 -- the items of a list from one on: what a loop reads next, and the end
@@ -99,11 +99,7 @@ module _ (s : List ℕ) (i k : ℕ) where
     pub behind-other : (f .key ≡ k → ⊥) → from s i ≡ behind k (from s i)
     behind-other q = sym (behind-cons ∙ rw (ne-eqb (f .key) k q) refl)
 
--- ---- one line by its bytes
-
-pub laid-by : {A : Type 0} (f : A → List ℕ) (w n : ℕ) (a : A) (bs out : List ℕ) (m : ℕ) (out′ : List ℕ) → bs ≡ f a → Laid (λ (x : List ℕ). x) w n (bs ∷ []) out m out′ → Laid f w n (a ∷ []) out m out′
-unfolding lay
-laid-by f w n a bs out m out′ e h = record { lines = h .lines; output = h .output ∙ rw e refl }
+-- ---- a delete's bytes
 
 zeros-bytes : (n : ℕ) → Bytes (replicate n 0)
 zeros-bytes zero i = omega arith

@@ -1,12 +1,12 @@
 -- Laws of tests over lists: of all, of one, and of every two. Assumes nothing.
-use mathlib.Core.Path.{_≡_, refl, ap, sym}
-use mathlib.Core.Bool.{Bool, true, false, cond, _&&_, _||_, not, false≢true}
+use mathlib.Core.Path.{_≡_, refl, ap, _∙_, sym}
+use mathlib.Core.Bool.{Bool, true, false, cond, _&&_, _||_, not, or-false, false≢true}
 use mathlib.Core.List.{List, [], _∷_, _++_, map, flatMap, List·Memᴰ, List·Memᴰ·head, List·Memᴰ·tail}
 use mathlib.Core.Logic.{_⊎_, inl, inr}
-use Prim.Native.Nat.{ℕ, suc, _<_}
+use Prim.Native.Nat.{ℕ, zero, suc, _<_}
 use native.Mathlib.Omega.{arith}
 use lib.Dec.{eqb}
-use lib.ListN.{length, getD}
+use lib.ListN.{length, getD, take, drop}
 use borrow.Author.Tests.{eq-eqb}
 use Rattle.records.specs.Stages.{stage, every, pairs}
 use Rattle.records.specs.Select.{keep, any}
@@ -51,14 +51,22 @@ module _ {A : Type 0} where
   every-append p [] m h k = k
   every-append p (a ∷ l) m h k = both (p a) (every p (l ++ m)) (both-left (p a) (every p l) h) (every-append p l m (both-right (p a) (every p l) h) k)
 
-  pub any-append : (p : A → Bool) (l m : List A) → (any p l || any p m) ≡ true → any p (l ++ m) ≡ true
+  pub any-appended : (p : A → Bool) (l m : List A) → any p (l ++ m) ≡ (any p l || any p m)
   unfolding any
-  any-append p [] m h = h
-  any-append p (a ∷ l) m h = go (p a) h (any-append p l m)
+  any-appended p [] m = refl
+  any-appended p (a ∷ l) m = go (p a) (any-appended p l m)
     where
-      go : (b : Bool) → ((b || any p l) || any p m) ≡ true → ((any p l || any p m) ≡ true → any p (l ++ m) ≡ true) → (b || any p (l ++ m)) ≡ true
-      go true h f = refl
-      go false h f = f h
+      go : (b : Bool) → any p (l ++ m) ≡ (any p l || any p m) → (b || any p (l ++ m)) ≡ ((b || any p l) || any p m)
+      go true e = refl
+      go false e = e
+
+  pub any-append : (p : A → Bool) (l m : List A) → (any p l || any p m) ≡ true → any p (l ++ m) ≡ true
+  any-append p l m h = any-appended p l m ∙ h
+
+  -- one of two
+  pub any-of-two : (p : A → Bool) (a b : A) → (p a || p b) ≡ any p (a ∷ b ∷ [])
+  unfolding any
+  any-of-two p a b = rw or-false refl
 
   pub pairs-append : (p : A → A → Bool) (l m : List A) → pairs p l ≡ true → pairs p m ≡ true → every (λ (a : A). every (p a) m) l ≡ true → pairs p (l ++ m) ≡ true
   unfolding every pairs
@@ -74,6 +82,25 @@ module _ {A : Type 0} where
   unfolding every
   at-every p e [] f = refl
   at-every p e (a ∷ l) f = both (p a) (every p l) (f 0 (omega arith)) (at-every p e l (λ i h. f (suc i) (omega arith)))
+
+  -- the first ones, and those behind them
+  pub every-take : (p : A → Bool) (n : ℕ) (l : List A) → every p l ≡ true → every p (take n l) ≡ true
+  unfolding every
+  every-take p zero l h = refl
+  every-take p (suc n) [] h = refl
+  every-take p (suc n) (a ∷ l) h = both (p a) (every p (take n l)) (both-left (p a) (every p l) h) (every-take p n l (both-right (p a) (every p l) h))
+
+  pub every-drop : (p : A → Bool) (n : ℕ) (l : List A) → every p l ≡ true → every p (drop n l) ≡ true
+  unfolding every
+  every-drop p zero l h = h
+  every-drop p (suc n) [] h = refl
+  every-drop p (suc n) (a ∷ l) h = every-drop p n l (both-right (p a) (every p l) h)
+
+  pub pairs-drop : (p : A → A → Bool) (n : ℕ) (l : List A) → pairs p l ≡ true → pairs p (drop n l) ≡ true
+  unfolding pairs
+  pairs-drop p zero l h = h
+  pairs-drop p (suc n) [] h = refl
+  pairs-drop p (suc n) (a ∷ l) h = pairs-drop p n l (both-right (every (p a) l) (pairs p l) h)
 
   -- changed one by one
   pub every-mapped : {B : Type 0} (q : B → Bool) (t : A → B) (l : List A) → every q (map t l) ≡ every (λ (a : A). q (t a)) l

@@ -49,6 +49,19 @@ same true b f g = sym (f refl)
 same false true f g = absurd (false≢true (g refl))
 same false false f g = refl
 
+-- what does not hold is false
+pub never : (b : Bool) → (b ≡ true → ⊥) → b ≡ false
+never true f = absurd (f refl)
+never false f = refl
+
+-- what a branch answers, where b is the test in code and p the one that is meant
+module _ {A : Type 0} (b p : Bool) (x y : A) (e : b ≡ p) where
+  pub cond-yes : b ≡ true → x ≡ cond p x y
+  cond-yes h = rw (sym e ∙ h) refl
+
+  pub cond-no : b ≡ false → y ≡ cond p x y
+  cond-no h = rw (sym e ∙ h) refl
+
 -- not at most is past
 pub not-leb : (a b : ℕ) → not (leb a b) ≡ ltb b a
 not-leb a b =

@@ -1,6 +1,6 @@
 -- Lines compared before and after: how often each is left. Assumes nothing.
 use mathlib.Core.Path.{_≡_, refl, ap, _∙_, sym}
-use mathlib.Core.Bool.{Bool, true, false, cond, _&&_, _||_, not, false≢true}
+use mathlib.Core.Bool.{Bool, true, false, cond, _&&_, _||_, not, and-false, false≢true}
 use mathlib.Core.List.{List, [], _∷_, map}
 use Prim.Native.Nat.{ℕ, _+_, _≤_}
 use native.Mathlib.Omega.{arith}
@@ -10,7 +10,7 @@ use Rattle.records.specs.Select.{keep, any, count}
 use Rattle.records.specs.Stages.{every}
 use Rattle.records.proofs.Tests.{both, both-left, both-right, same}
 use Rattle.records.proofs.Counts.{count-map, count-keep, count-same, count-never, none-fails}
-use Rattle.item.specs.Items.{Fields}
+use Rattle.item.specs.Items.{Fields, reference}
 use Rattle.cut.specs.Mappings.{named}
 use Rattle.cut.specs.Refs.{Ref, refOf, sameRef, refPasses}
 use Rattle.refs.specs.Compared.{among, refBefore, insertRef, sorted, without, minus, refsAmong, comparedShares, comparedUnrefs}
@@ -48,6 +48,10 @@ same-ref q r h =
     let s : q .start ≡ r .start = eqb-true (q .start) (r .start) (both-left (eqb (q .start) (r .start)) (eqb (q .offset) (r .offset)) h) in
     let o : q .offset ≡ r .offset = eqb-true (q .offset) (r .offset) (both-right (eqb (q .start) (r .start)) (eqb (q .offset) (r .offset)) h) in
     λ i. record { start = s i; offset = o i }
+
+-- an item's, from its two numbers
+pub ref-of : (f : Fields) (s o : ℕ) → s ≡ f .extentStart → o ≡ reference f → _≡_ {A = Ref} (record { start = s; offset = o }) (refOf f)
+ref-of f s o p q = λ i. record { start = p i; offset = q i }
 
 same-sym : (q r : Ref) → sameRef q r ≡ sameRef r q
 same-sym q r = rw (eqb-swap (q .start) (r .start), eqb-swap (q .offset) (r .offset)) refl
@@ -113,11 +117,7 @@ minus-most p xs (y ∷ ys) = omega (arith, minus-most p (without y xs) ys, witho
 -- an item is among the extents if it names an extent and that is one of them
 pub among-listed : (extents : List ℕ) (f : Fields) → among extents f ≡ (named f && any (eqb (f .extentStart)) extents)
 unfolding any
-among-listed [] f = go (named f)
-  where
-    go : (b : Bool) → false ≡ (b && false)
-    go true = refl
-    go false = refl
+among-listed [] f = sym (and-false (named f))
 among-listed (s ∷ extents) f = rw (among-listed extents f) (go (named f))
   where
     go : (b : Bool) → ((b && eqb (f .extentStart) s) || (b && any (eqb (f .extentStart)) extents)) ≡ (b && any (eqb (f .extentStart)) (s ∷ extents))
@@ -135,7 +135,7 @@ module _ (extents : List ℕ) (f : Fields) where
   listed-among n h = rw (among-listed extents f) (both (named f) (any (eqb (f .extentStart)) extents) n h)
 
 -- the references of the extents, by any test
-refs-count : (p : Ref → Bool) (extents : List ℕ) (fs : List Fields) → count p (refsAmong extents fs) ≡ count (λ (f : Fields). among extents f && refPasses p f) fs
+pub refs-count : (p : Ref → Bool) (extents : List ℕ) (fs : List Fields) → count p (refsAmong extents fs) ≡ count (λ (f : Fields). among extents f && refPasses p f) fs
 refs-count p extents fs =
     sorted-count p (map refOf (keep (among extents) fs))
     ∙ count-map p refOf (keep (among extents) fs)

@@ -11,7 +11,6 @@ use Rattle.records.specs.Stages.{unless, stage, every}
 use Rattle.records.specs.Select.{keep}
 use Rattle.records.proofs.Tests.{both, both-left, both-right, first-go, stage-zero}
 use Rattle.records.proofs.Lists.{every-flat}
-use Rattle.item.specs.Items.{Fields}
 use Rattle.table.specs.declared.Row.{Row}
 use Rattle.table.specs.declared.Found.{Found}
 use Rattle.table.specs.declared.Found.the-variants.{At, Missing}

@@ -13,41 +13,27 @@ use Rattle.records.proofs.Loops.{rest, rest-cons, rest-nil}
 use Rattle.item.specs.Items.{Fields, fields, decode, items}
 use Rattle.item.proofs.Laws.{rest-items}
 use Rattle.cut.specs.Mappings.{holds}
-use Rattle.refs.specs.Drops.{Held, held}
+use Rattle.refs.specs.Drops.{Held}
+use Rattle.refs.proofs.Helds.{heldRest, held-cons, held-nil}
 use Rattle.change.specs.declared.Rewrite.{Rewrite}
 use Rattle.change.specs.Rewrites.{holderOf, whenHeld, preallocatedIn}
 use Rattle.rewrites.specs.declared.Holder.{Holder}
 use Rattle.rewrites.specs.Raw.{heldIn, holderIn}
 
--- of n records with their shared bytes those from i on
-abbrev pub left : (list shared : List ℕ) (n i : ℕ) → List Held
-left list shared n i = held (rest decode 70 list n i) (drop i shared)
-
-pub left-all : (list shared : List ℕ) → left list shared (length list / 70) 0 ≡ held (items list) shared
-left-all list shared = rw rest-items refl
-
-pub left-cons : (list shared : List ℕ) (n i : ℕ) → i < n → i < length shared → left list shared n i ≡ record { item = decode (drop (i * 70) list); shared = getD shared i 0 } ∷ left list shared n (i + 1)
-unfolding held
-left-cons list shared n i h l = rw (rest-cons decode 70 list n i h, drop-cons shared i 0 l, add-one) refl
-
-pub left-nil : (list shared : List ℕ) (n i : ℕ) → n ≤ i → left list shared n i ≡ []
-unfolding held
-left-nil list shared n i h = rw (rest-nil decode 70 list n i h) refl
-
 module _ (o : ℕ) (list shared : List ℕ) (n i : ℕ) (r : Fields) (b : Bool) (h : i < n) (l : i < length shared) (e : r ≡ decode (drop (i * 70) list)) (q : b ≡ holds o r) where
-  holder-cons : holderOf o (left list shared n i) ≡ cond b (some (record { item = r; shared = getD shared i 0 })) (holderOf o (left list shared n (i + 1)))
+  holder-cons : holderOf o (heldRest list shared n i) ≡ cond b (some (record { item = r; shared = getD shared i 0 })) (holderOf o (heldRest list shared n (i + 1)))
   unfolding holderOf
-  holder-cons = rw (left-cons list shared n i h l, ← e, ← q) refl
+  holder-cons = rw (held-cons list shared n i h l, ← e, ← q) refl
 
-  pub holder-stop : b ≡ true → some (record { item = r; shared = getD shared i 0 }) ≡ holderOf o (left list shared n i)
+  pub holder-stop : b ≡ true → some (record { item = r; shared = getD shared i 0 }) ≡ holderOf o (heldRest list shared n i)
   holder-stop t = sym (holder-cons ∙ rw t refl)
 
-  pub holder-turn : b ≡ false → holderOf o (left list shared n (i + 1)) ≡ holderOf o (left list shared n i)
+  pub holder-turn : b ≡ false → holderOf o (heldRest list shared n (i + 1)) ≡ holderOf o (heldRest list shared n i)
   holder-turn t = sym (holder-cons ∙ rw t refl)
 
-pub holder-done : (o : ℕ) (list shared : List ℕ) (n i : ℕ) → n ≤ i → none ≡ holderOf o (left list shared n i)
+pub holder-done : (o : ℕ) (list shared : List ℕ) (n i : ℕ) → n ≤ i → none ≡ holderOf o (heldRest list shared n i)
 unfolding holderOf
-holder-done o list shared n i h = rw (left-nil list shared n i h) refl
+holder-done o list shared n i h = rw (held-nil list shared n i h) refl
 
 -- what a search says
 pub found-some : (h : Holder) (x : Option Held) → holderIn h ≡ x → h .found ≡ true → some (heldIn h) ≡ x

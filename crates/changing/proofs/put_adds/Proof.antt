@@ -1,5 +1,5 @@
 use Rattle.changing.specs.Sides.{addOf}
-use Rattle.changing.proofs.Sides.{only-few}
+use Rattle.records.proofs.Picks.{only-few}
 use Rattle.lines.proofs.Laws.{laid-append}
 use Rattle.plan.specs.Outputs.{addNumbers}
 use native.Mathlib.Omega.{arith}

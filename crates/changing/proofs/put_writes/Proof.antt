@@ -1,4 +1,5 @@
-use Rattle.changing.proofs.Sides.{only-few, sides-few}
+use Rattle.records.proofs.Picks.{only-few}
+use Rattle.changing.proofs.Sides.{sides-few}
 use Rattle.changing.specs.Sides.{writeAt}
 use Rattle.rewrites.specs.Raw.{heldIn}
 use Rattle.change.specs.Rewrites.{writeInPlace}

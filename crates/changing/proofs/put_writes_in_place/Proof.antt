@@ -1,4 +1,4 @@
-use Rattle.changing.proofs.Sides.{only-few}
+use Rattle.records.proofs.Picks.{only-few}
 use Rattle.rewrites.specs.Raw.{heldIn}
 use Rattle.change.specs.Rewrites.{writeInPlace}
 use Rattle.lines.proofs.Laws.{laid-append}

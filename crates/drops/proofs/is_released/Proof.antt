@@ -1,11 +1,12 @@
-use Rattle.drops.proofs.Tallies.{heldRest, held-all, Tally, tally-first, tally-turn, tally-released, one-most, ofExtent}
+use Rattle.refs.proofs.Helds.{heldRest, held-all}
+use Rattle.drops.proofs.Tallies.{Tally, tally-first, tally-turn, tally-released, one-most, ofExtent}
 use Rattle.refs.specs.Drops.{held}
-use Rattle.item.proofs.Laws.{item-decode, rest-items, items-length}
+use Rattle.item.proofs.Laws.{item-decode, items-length}
 use Rattle.item.specs.Items.{items, fields}
 use denote.Ref.{now}
 use borrow.Author.Needs.{needs}
 use Prim.Native.Nat.{_-_, _≤_}
-use mathlib.Core.Path.{_∙_, sym}
+use mathlib.Core.Path.{_∙_}
 use native.Mathlib.Omega.{arith}
 use Rattle.drops.proofs.is_released.Statement.{statement}
 use Rattle.drops.proofs.is_released.Tie as tie
@@ -17,7 +18,7 @@ abbrev μ-loop : tie.MeasureT-loop
 μ-loop c list shared row n start drops₀ free₀ i₀ drops free i = n - i
 
 loop-holds : tie.Need-loop-holds Inv-loop μ-loop
-loop-holds c = (omega arith, omega arith, tally-first _ _ _ (held-all _ _ _ _ (rest-items _)))
+loop-holds c = (omega arith, omega arith, tally-first _ _ _ (held-all _ _))
 
 item-at-requires : tie.Need-item-at-requires Inv-loop μ-loop
 item-at-requires c κs = omega arith
@@ -52,7 +53,7 @@ loop-again c =
     let l = c .before .before .before .before .before .before .before .loop in (
       omega arith,
       omega (arith, one-most (c .before .before .before .before .is-drop-of .result) _ (c .before .before .before .one-if .ensures)),
-      tally-turn (ofExtent (a .c) (a .row .start)) _ (now (a .list)) (now (a .shared)) _ _ (fields (c .before .before .before .before .before .item-at .result)) _ _ _ _ _ _ (omega arith) (sym (c .before .before .before .before .before .before .before .before .before .before .pre ∙ items-length _)) (item-decode _ _ (c .before .before .before .before .before .item-at .ensures)) (c .before .before .before .before .is-drop-of .ensures) (c .before .before .before .one-if .ensures) (c .before .either .ensures) (c .both .ensures) (l .inv .2),
+      tally-turn (ofExtent (a .c) (a .row .start)) _ (now (a .list)) (now (a .shared)) _ _ (fields (c .before .before .before .before .before .item-at .result)) _ _ _ _ _ _ (omega arith) (omega (arith, items-length (now (a .list)), c .before .before .before .before .before .before .before .before .before .before .pre)) (item-decode _ _ (c .before .before .before .before .before .item-at .ensures)) (c .before .before .before .before .is-drop-of .ensures) (c .before .before .before .one-if .ensures) (c .before .either .ensures) (c .both .ensures) (l .inv .2),
     )
 
 both-requires-2 : tie.Need-both-requires-2 Inv-loop μ-loop

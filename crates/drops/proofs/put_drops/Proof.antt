@@ -1,5 +1,5 @@
 use Rattle.drops.proofs.Rows.{lines-rows, kind-most}
-use Rattle.drops.proofs.Flat.{laid-same, flat-first, flat-room, flat-turn, flat-done, going-length}
+use Rattle.lines.proofs.Loops.{laid-same, flat-first, flat-room, flat-turn, flat-done, going-length}
 use Rattle.drops.specs.Raw.{rowLines}
 use Rattle.drops.specs.Dropped.{dropsIn}
 use Rattle.lines.proofs.Laws.{Going}

@@ -1,5 +1,5 @@
 use Rattle.drops.proofs.Rows.{line-some, line-none}
-use Rattle.drops.proofs.Flat.{laid-same, laid-length}
+use Rattle.lines.proofs.Loops.{laid-same, laid-length}
 use Rattle.lines.proofs.Laws.{laid-none}
 use Rattle.plan.specs.Outputs.{refNumbers}
 use Rattle.item.specs.Items.{fields}

@@ -1,4 +1,4 @@
-use Rattle.drops.proofs.Flat.{flat-first, flat-room, flat-turn, flat-done, going-length}
+use Rattle.lines.proofs.Loops.{flat-first, flat-room, flat-turn, flat-done, going-length}
 use Rattle.drops.specs.Raw.{lineOf}
 use Rattle.lines.proofs.Laws.{Going}
 use Rattle.plan.specs.Outputs.{refNumbers}

@@ -2,7 +2,7 @@ use lib.Dec.{eqb}
 use Prim.Native.Nat.{ℕ}
 use mathlib.Core.Bool.{Bool, _&&_, _||_, not}
 use mathlib.Core.Path.{_∙_, ap, ap₂}
-use Rattle.edits.proofs.Loops.{none-of-two}
+use Rattle.records.proofs.Lists.{any-of-two}
 use borrow.Author.Needs.{needs}
 use Rattle.edits.proofs.is_shared.Statement.{statement}
 use Rattle.edits.proofs.is_shared.Tie as tie
@@ -23,7 +23,7 @@ returns : tie.Need-returns
 returns c = let a = c .before .before .before .before .args in
     c .both .ensures
     ∙ ap₂ (λ (x y : Bool). x && y) (c .before .before .is-split .ensures)
-    (ap not (c .before .either .ensures) ∙ ap (λ (s : ℕ). not (eqb s (a .one) || eqb s (a .two))) (c .before .before .before .extent-start .ensures) ∙ none-of-two _ (a .one) (a .two))
+    (ap not (c .before .either .ensures) ∙ ap (λ (s : ℕ). not (eqb s (a .one) || eqb s (a .two))) (c .before .before .before .extent-start .ensures) ∙ ap not (any-of-two (eqb _) (a .one) (a .two)))
 
 pub is-shared-spec : {M : Type 1} → statement M
 is-shared-spec =

@@ -1,4 +1,5 @@
-use Rattle.edits.proofs.Steps.{laid-by, delete-bytes}
+use Rattle.edits.proofs.Steps.{delete-bytes}
+use Rattle.lines.proofs.Loops.{laid-by}
 use Rattle.plan.specs.Outputs.{editBytes}
 use borrow.Author.Needs.{needs}
 use Rattle.edits.proofs.put_delete.Statement.{statement}

@@ -1,4 +1,4 @@
-use Rattle.edits.proofs.Steps.{laid-by}
+use Rattle.lines.proofs.Loops.{laid-by}
 use Rattle.plan.specs.Outputs.{editBytes}
 use mathlib.Core.Path.{refl}
 use borrow.Author.Needs.{needs}

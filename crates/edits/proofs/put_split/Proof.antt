@@ -1,7 +1,8 @@
 use Rattle.cut.specs.Refs.{refOf}
 use Rattle.item.specs.Items.{fields}
 use Rattle.plan.specs.Outputs.{refNumbers}
-use Rattle.edits.proofs.Loops.{ref-of, laid-yes, laid-no}
+use Rattle.refs.proofs.Compared.{ref-of}
+use Rattle.lines.proofs.Loops.{laid-yes, laid-no}
 use borrow.Author.Needs.{needs}
 use Rattle.edits.proofs.put_split.Statement.{statement}
 use Rattle.edits.proofs.put_split.Tie as tie

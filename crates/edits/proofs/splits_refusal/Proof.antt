@@ -1,5 +1,5 @@
 use mathlib.Core.List.{map}
-use Rattle.edits.proofs.Picks.{stage-kept}
+use Rattle.records.proofs.Picks.{stage-kept}
 use Rattle.edits.specs.Splits.{splitRefusal}
 use Rattle.cut.specs.Refs.{Ref, refOf}
 use Rattle.cut.specs.Cuts.{split}

@@ -1,5 +1,7 @@
 use Rattle.item.specs.Items.{fields}
-use Rattle.refs.proofs.Among.{among-two}
+use Rattle.cut.specs.Refs.{names}
+use Rattle.records.proofs.Lists.{any-of-two}
+use Prim.Native.Nat.{ℕ}
 use mathlib.Core.Bool.{Bool, _||_}
 use mathlib.Core.Path.{_∙_, ap₂}
 use borrow.Author.Needs.{needs}
@@ -16,7 +18,7 @@ either-requires : tie.Need-either-requires
 either-requires c κs = search needs
 
 returns : tie.Need-returns
-returns c = let a = c .before .before .before .args in c .either .ensures ∙ ap₂ (λ (x y : Bool). x || y) (c .before .before .is-naming .ensures) (c .before .is-naming2 .ensures) ∙ among-two (a .one) (a .two) (fields (a .item))
+returns c = let a = c .before .before .before .args in c .either .ensures ∙ ap₂ (λ (x y : Bool). x || y) (c .before .before .is-naming .ensures) (c .before .is-naming2 .ensures) ∙ any-of-two (λ (s : ℕ). names s (fields (a .item))) (a .one) (a .two)
 
 pub is-among-spec : {M : Type 1} → statement M
 is-among-spec =

@@ -1,6 +1,7 @@
+use Rattle.refs.proofs.Helds.{heldRest, held-all}
 use denote.Ref.{now}
 use mathlib.Core.Path.{refl}
-use Rattle.rewrites.proofs.Holding.{left, left-all, holder-stop, holder-turn, holder-done}
+use Rattle.rewrites.proofs.Holding.{holder-stop, holder-turn, holder-done}
 use Rattle.change.specs.Rewrites.{holderOf}
 use Rattle.refs.specs.Drops.{held}
 use Rattle.item.proofs.Laws.{item-decode, items-length}
@@ -13,13 +14,13 @@ use Rattle.rewrites.proofs.holding_item.Statement.{statement}
 use Rattle.rewrites.proofs.holding_item.Tie as tie
 
 abbrev Inv-loop : tie.InvT-loop
-Inv-loop o list shared n i₀ i = (i ≤ n) × (holderOf o (left list shared n i) ≡ holderOf o (held (items list) shared))
+Inv-loop o list shared n i₀ i = (i ≤ n) × (holderOf o (heldRest list shared n i) ≡ holderOf o (held (items list) shared))
 
 abbrev μ-loop : tie.MeasureT-loop
 μ-loop o list shared n i₀ i = n - i
 
 loop-holds : tie.Need-loop-holds Inv-loop μ-loop
-loop-holds c = (omega arith, rw left-all refl)
+loop-holds c = (omega arith, rw held-all refl)
 
 item-at-requires : tie.Need-item-at-requires Inv-loop μ-loop
 item-at-requires c κs = omega arith

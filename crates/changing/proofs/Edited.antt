@@ -1,0 +1,128 @@
+-- A list where a segment stands for a part of it: its edits and bytes, and that a change's lists are well kept. Assumes nothing.
+use mathlib.Core.Path.{_≡_, refl, ap₂, _∙_}
+use mathlib.Core.Bool.{Bool, true, false}
+use mathlib.Core.List.{List, [], _∷_, _++_, map, map-append, map-map, map-id}
+use Prim.Native.Nat.{ℕ, _+_, _-_, _%_, _^_, _≤_, _<_}
+use native.Mathlib.Omega.{arith}
+use lib.ListN.{take, drop, take-append-drop}
+use Rattle.records.specs.Stages.{every, pairs}
+use Rattle.records.proofs.Tests.{both, both-left, both-right, every-map}
+use Rattle.records.proofs.Lists.{every-true}
+use Rattle.item.specs.Items.{Fields, ranged}
+use Rattle.lists.specs.Lists.{itemSound, rises, apart}
+use Rattle.lists.proofs.Laws.{Kept}
+use Rattle.cut.specs.Pieces.{Piece, made, kept, itemsOf, replaced, countedBytes}
+use Rattle.cut.specs.Edits.{edits}
+use Rattle.cut.proofs.Bytes.{bytes-append, bytes-fit}
+use Rattle.cut.proofs.Kept.{clear-apart, kept-from, from-keeps, from-insertAll, from-ranged}
+use Rattle.segment.specs.declared.Segment.{Segment}
+use Rattle.records.proofs.Lists.{pairs-drop}
+use Rattle.edits.proofs.Replaced.{edits-replaced}
+use Rattle.plan.specs.Plans.{Add}
+use Rattle.plan.specs.Places.{Wanted}
+use Rattle.change.specs.Rewrites.{Ground}
+use Rattle.change.specs.Changes.{Change, newItems, piecesJoined, piecesAfter, wanted}
+use Rattle.change.proofs.Fair.{Fair}
+use Rattle.change.proofs.Each.{newItem, new-every, new-pairs}
+use Rattle.change.proofs.Items.{sound-item, apart-clear}
+use Rattle.change.proofs.News.{wants, wantedSound, wantedApart, wantedClear, wanted-sound, wanted-apart, wanted-clear}
+use Rattle.change.proofs.Steps.{kept-joined, ranged-joined}
+use Rattle.changing.specs.Sides.{middle}
+
+-- ---- a test of a list, of its two parts
+
+module _ {A : Type 0} where
+  every-parts : (p : A → Bool) (l m : List A) → every p (l ++ m) ≡ true → (every p l ≡ true) × (every p m ≡ true)
+  unfolding every
+  every-parts p [] m h = (refl, h)
+  every-parts p (a ∷ l) m h =
+      let r = every-parts p l m (both-right (p a) (every p (l ++ m)) h) in
+      (both (p a) (every p l) (both-left (p a) (every p (l ++ m)) h) (r .0), r .1)
+
+  pairs-parts : (p : A → A → Bool) (l m : List A) → pairs p (l ++ m) ≡ true → (pairs p l ≡ true) × (pairs p m ≡ true) × (every (λ (a : A). every (p a) m) l ≡ true)
+  unfolding pairs every
+  pairs-parts p [] m h = (refl, h, refl)
+  pairs-parts p (a ∷ l) m h =
+      let e = every-parts (p a) l m (both-left (every (p a) (l ++ m)) (pairs p (l ++ m)) h) in
+      let r = pairs-parts p l m (both-right (every (p a) (l ++ m)) (pairs p (l ++ m)) h) in
+      (both (every (p a) l) (pairs p l) (e .0) (r .0), r .1, both (every (p a) m) (every (λ (c : A). every (p c) m) l) (e .1) (r .2))
+
+-- ---- a segment that stands for a part of a list
+
+marked : (b : Bool) (fs : List Fields) → itemsOf (map (λ (f : Fields). record { made = b; item = f }) fs) ≡ fs
+marked b fs = map-map (λ (p : Piece). p .item) (λ (f : Fields). record { made = b; item = f }) fs ∙ map-id fs
+
+module _ (fs : List Fields) (s : Segment) (segment : List Fields) where
+  abbrev pieces : List Piece
+  pieces = replaced fs (s .from) (s .to) segment
+
+  abbrev ahead : List Fields
+  ahead = take (s .from) fs
+
+  abbrev behind : List Fields
+  behind = drop (s .to) fs
+
+  pub items-replaced : itemsOf pieces ≡ ahead ++ (segment ++ behind)
+  items-replaced =
+      map-append (λ (p : Piece). p .item) (map kept ahead) (map made segment ++ map kept behind)
+      ∙ ap₂ (λ (l m : List Fields). l ++ m) (marked false ahead)
+      (map-append (λ (p : Piece). p .item) (map made segment) (map kept behind) ∙ ap₂ (λ (l m : List Fields). l ++ m) (marked true segment) (marked false behind))
+
+  pub bytes-same : countedBytes (itemsOf pieces) ≡ countedBytes ahead + (countedBytes segment + countedBytes behind)
+  bytes-same = rw items-replaced (omega (arith, bytes-append ahead (segment ++ behind), bytes-append segment behind))
+
+  module _ (file : ℕ) where
+    -- what makes way rises
+    pub middle-rises : Kept file fs → pairs rises (middle fs s) ≡ true
+    middle-rises o =
+        let d : List Fields = drop (s .from) fs in
+        let n : ℕ = s .to - s .from in
+        pairs-parts rises (take n d) (drop n d) (rw (take-append-drop n d) (pairs-drop rises (s .from) fs (o .rising))) .0
+
+    module _ (k : Kept file (itemsOf pieces)) where
+      rising : pairs rises (ahead ++ (segment ++ behind)) ≡ true
+      rising = rw items-replaced at (k .rising)
+
+      -- and so does what takes its place
+      pub segment-rises : pairs rises segment ≡ true
+      segment-rises = pairs-parts rises segment behind (pairs-parts rises ahead (segment ++ behind) rising .1) .0
+
+      -- the edits of the whole are those of the part
+      pub edits-same : Kept file fs → s .from ≤ s .to → edits fs pieces ≡ edits (middle fs s) (map made segment)
+      edits-same o l =
+          let h = pairs-parts rises ahead (segment ++ behind) rising in
+          edits-replaced fs (s .from) (s .to) segment (o .rising) l
+          (every-map (λ (f : Fields). every (rises f) (segment ++ behind)) (λ (f : Fields). every (rises f) segment) (λ f e. every-parts (rises f) segment behind e .0) ahead (h .2))
+          (pairs-parts rises segment behind (h .1) .2)
+
+      -- the bytes fit
+      pub bytes-below : every ranged (itemsOf pieces) ≡ true → countedBytes ahead + (countedBytes segment + countedBytes behind) < 2 ^ 64
+      bytes-below r = omega (arith, bytes-same, bytes-fit file (itemsOf pieces) k r)
+
+-- ---- a change's lists
+
+module _ (g : Ground) (c : Change) (fair : Fair g c) where
+  pub joined-kept : Kept (g .file) (itemsOf (piecesJoined g c)) × (every ranged (itemsOf (piecesJoined g c)) ≡ true)
+  joined-kept = (kept-joined g c fair, ranged-joined g c fair)
+
+  -- at any places, sound or not: they are only the starts of extents, which no test of a list looks at
+  module _ (limit : ℕ) (pos : 0 < limit) (sectors : limit % g .sector ≡ 0) (places : List ℕ) where
+    abbrev news : List Fields
+    news = newItems g places (wanted g c limit)
+
+    -- what holds of each item over a new extent
+    every-item : (u : Wanted → Bool) (q : Fields → Bool) → ((p : ℕ) (w : Wanted) → u w ≡ true → q (newItem g p w) ≡ true) → every u (wanted g c limit) ≡ true → every q news ≡ true
+    every-item u q f h = new-every g (λ (a : Add). true) u q (λ p w v e. f p w e) places (wanted g c limit) (every-true _) h
+
+    pub after-kept : Kept (g .file) (itemsOf (piecesAfter g c limit places)) × (every ranged (itemsOf (piecesAfter g c limit places)) ≡ true)
+    unfolding piecesAfter
+    after-kept =
+        let j : List Fields = itemsOf (piecesJoined g c) in
+        let w = wanted-sound g c fair limit pos sectors in
+        let f = from-insertAll (g .file) news (piecesJoined g c)
+        (every-item (wantedSound (g .sector)) (itemSound (g .file)) (λ p w e. let u = wants (g .sector) w e in sound-item (g .file) (newItem g p w) refl refl (u .some) (u .ends) (omega (arith, u .ends))) w)
+        (every-item (wantedSound (g .sector)) ranged (λ p w e. wants (g .sector) w e .kind) w)
+        (new-pairs g wantedApart apart (λ p q a d h. apart-clear (newItem g p a) (newItem g q d) h) places (wanted g c limit) (wanted-apart g c fair limit pos))
+        (every-item (wantedClear j) (λ (x : Fields). every (apart x) j) (λ p w e. clear-apart (w .key) (w .key + w .length) (newItem g p w) j (omega arith) (omega arith) e) (wanted-clear g c fair limit pos))
+        (kept-from (g .file) j (joined-kept .0) (joined-kept .1)) in
+        (from-keeps (g .file) 0 _ f, from-ranged (g .file) 0 _ f)
