@@ -122,7 +122,7 @@ fn put_new_add(new: bool, sector: u64, r: Rewrite, place: u64, out: &mut [u64], 
 }
 
 // The adds of a plan: x is the front sector's place, y the back one's.
-fn put_adds(c: RangeChange, p: Parts, sector: u64, x: u64, y: u64, out: &mut [u64]) -> usize
+pub fn put_adds(c: RangeChange, p: Parts, sector: u64, x: u64, y: u64, out: &mut [u64]) -> usize
     ensures { λ m. ⌜ Laid addNumbers 3 0 (sides (frontNew c p) (backNew c p) (addOf sector (c .front) x) (addOf sector (c .back) y)) (now (out .entry)) m (now (out .exit)) ⌝ }
 {
     let n = put_new_add(front_new(c, p), sector, c.front, x, out, 0);
@@ -150,7 +150,7 @@ fn put_writes_in_place(c: RangeChange, p: Parts, out: &mut [u64]) -> usize
 }
 
 // The writes of a plan: those in place first.
-fn put_writes(c: RangeChange, p: Parts, x: u64, y: u64, out: &mut [u64]) -> usize
+pub fn put_writes(c: RangeChange, p: Parts, x: u64, y: u64, out: &mut [u64]) -> usize
     requires { ⌜ Writable (c .front) (p .front) × Writable (c .back) (p .back) ⌝ }
     ensures { λ m. ⌜ Laid writeNumbers 4 0 (writesOf c p x y) (now (out .entry)) m (now (out .exit)) ⌝ }
 {
@@ -193,7 +193,7 @@ pub fn cut_of(c: RangeChange, p: Parts) -> Cut
 }
 
 // The references of the extents written in place that there are more of after the change than before.
-fn put_more(k: Cut, list: &[u8], seg: &[u8], s: Segment, out: &mut [u64], n: usize) -> usize
+pub fn put_more(k: Cut, list: &[u8], seg: &[u8], s: Segment, out: &mut [u64], n: usize) -> usize
     requires { ⌜ Good (now list) s (now seg) × (n + s .count < 2 ^ 64) ⌝ }
     ensures { λ m. ⌜ Laid refNumbers 2 n (comparedOf k (middle (items (now (list .entry))) s) (segmentOf s (now (seg .entry)))) (now (out .entry)) m (now (out .exit)) ⌝ }
 {
@@ -215,7 +215,7 @@ fn put_fewer(k: Cut, list: &[u8], seg: &[u8], s: Segment, out: &mut [u64], n: us
 }
 
 // The shares of a plan: splits, then the references that there are more of.
-fn put_shares(k: Cut, list: &[u8], seg: &[u8], s: Segment, out: &mut [u64]) -> usize
+pub fn put_shares(k: Cut, list: &[u8], seg: &[u8], s: Segment, out: &mut [u64]) -> usize
     requires { ⌜ Good (now list) s (now seg) × (length (items (now list)) ≤ 65536) × (s .count ≤ 4) ⌝ }
     ensures { λ m. ⌜ Laid refNumbers 2 0 (sharesOf k (items (now (list .entry))) s (segmentOf s (now (seg .entry)))) (now (out .entry)) m (now (out .exit)) ⌝ }
 {
@@ -224,7 +224,7 @@ fn put_shares(k: Cut, list: &[u8], seg: &[u8], s: Segment, out: &mut [u64]) -> u
 }
 
 // The unrefs of a plan: the references that there are fewer of, then the drops that release nothing.
-fn put_unrefs(
+pub fn put_unrefs(
     k: Cut,
     list: &[u8],
     shared: &[u8],
@@ -243,7 +243,7 @@ fn put_unrefs(
 // ---- edits and bytes
 
 // The edits of a plan.
-fn put_changes(file: u64, list: &[u8], seg: &[u8], s: Segment, out: &mut [u8]) -> usize
+pub fn put_changes(file: u64, list: &[u8], seg: &[u8], s: Segment, out: &mut [u8]) -> usize
     requires { ⌜ Good (now list) s (now seg) × (pairs rises (middle (items (now list)) s) ≡ true) × (pairs rises (segmentOf s (now seg)) ≡ true) × (length (items (now list)) ≤ 65536) × (s .count ≤ 6) ⌝ }
     ensures { λ m. ⌜ Laid (editBytes file) 71 0 (edits (middle (items (now (list .entry))) s) (map made (segmentOf s (now (seg .entry))))) (now (out .entry)) m (now (out .exit)) ⌝ }
 {
@@ -264,7 +264,7 @@ fn bytes_in(list: &[u8], from: usize, to: usize) -> u64
 }
 
 // The bytes that the file's items count after the change.
-fn bytes_after(list: &[u8], seg: &[u8], s: Segment) -> u64
+pub fn bytes_after(list: &[u8], seg: &[u8], s: Segment) -> u64
     requires { ⌜ Good (now list) s (now seg) × (bytesOf (items (now list)) s (segmentOf s (now seg)) < 2 ^ 64) ⌝ }
     ensures { λ r. ⌜ r ≡ bytesOf (items (now (list .entry))) s (segmentOf s (now (seg .entry))) ⌝ }
 {

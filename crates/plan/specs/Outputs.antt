@@ -1,6 +1,7 @@
 -- How a plan lies in the lent outputs, and refusal 27.
 use mathlib.Core.Bool.{Bool, _&&_}
 use mathlib.Core.List.{List, [], _∷_, _++_, flatMap}
+use mathlib.Core.Path.{_≡_}
 use Prim.Native.Nat.{ℕ, _/_}
 use lib.Dec.{leb}
 use lib.ListN.{length, replicate}
@@ -8,7 +9,9 @@ use Rattle.endian.specs.Le.{enc, put}
 use Rattle.item.specs.Items.{encode}
 use Rattle.cut.specs.Refs.{Ref}
 use Rattle.cut.specs.Edits.{Edit, put as putItem, delete}
-use Rattle.plan.specs.Plans.{Plan, Add, Write}
+use Rattle.request.specs.declared.Answer.{Answer}
+use Rattle.request.specs.Answers.{Outcome, plan, nothing, refused, said as answered}
+use Rattle.plan.specs.Plans.{Plan, Add, Write, told}
 
 -- the lengths of the outputs that a call is lent: edits in bytes, the others in numbers
 pub record Rooms : Type 0 where
@@ -47,3 +50,47 @@ writeNumbers w = w .key ∷ w .at ∷ w .first ∷ w .end ∷ []
 -- a part of a plan over an output from its start; "Output past the plan keeps its bytes."
 abbrev pub laid : {A : Type 0} → (A → List ℕ) → List A → List ℕ → List ℕ
 laid f parts out = put (flatMap f parts) 0 out
+
+-- ---- what a call leaves
+
+-- the six outputs that a call is lent
+pub record Outs : Type 0 where
+  pub edits : List ℕ
+  pub shares : List ℕ
+  pub unrefs : List ℕ
+  pub releases : List ℕ
+  pub adds : List ℕ
+  pub writes : List ℕ
+
+abbrev pub outs : (edits shares unrefs releases adds writes : List ℕ) → Outs
+outs e s u r a w = record { edits = e; shares = s; unrefs = u; releases = r; adds = a; writes = w }
+
+abbrev pub roomsOf : Outs → Rooms
+roomsOf o =
+    record {
+      edits = length (o .edits);
+      shares = length (o .shares);
+      unrefs = length (o .unrefs);
+      releases = length (o .releases);
+      adds = length (o .adds);
+      writes = length (o .writes);
+    }
+
+-- a plan lies in each of them from its start; a refusal, and nothing to do, leave all as they were
+abbrev pub left : ℕ → Outcome Plan → Outs → Outs
+left file (plan p) o =
+    record {
+      edits = laid (editBytes file) (p .edits) (o .edits);
+      shares = laid refNumbers (p .shares) (o .shares);
+      unrefs = laid refNumbers (p .unrefs) (o .unrefs);
+      releases = laid refNumbers (p .releases) (o .releases);
+      adds = laid addNumbers (p .adds) (o .adds);
+      writes = laid writeNumbers (p .writes) (o .writes);
+    }
+left file nothing o = o
+left file (refused n) o = o
+
+-- an operation on a file does what its definition says: the answer, and every number of the outputs after it
+pub record Met (file : ℕ) (o : Outcome Plan) (r : Answer) (before after : Outs) : Type 0 where
+  pub answer : answered r ≡ told o
+  pub outputs : after ≡ left file o before
