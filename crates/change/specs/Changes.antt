@@ -1,13 +1,15 @@
 -- `change_range` (fallocate.rs): "`change_range` then cuts, rewrites, joins, drops, takes places, counts."
-use mathlib.Core.Bool.{Bool, _&&_, not}
+use mathlib.Core.Bool.{Bool, cond, _&&_, not}
 use mathlib.Core.List.{List, [], _∷_, _++_, map, flatMap}
 use Prim.Native.Nat.{ℕ, _+_, _-_, _^_}
 use lib.Dec.{eqb}
+use lib.ListN.{length, replicate}
 use Rattle.records.specs.Stages.{unless, firstOf, stage}
 use Rattle.records.specs.Select.{only, keep, any}
 use Rattle.item.specs.Items.{Fields, hole, regularItem, ofKind}
 use Rattle.table.specs.Rows.{oneMoreReference}
-use Rattle.request.specs.Answers.{Outcome, plan}
+use Rattle.request.specs.declared.Numbers.{Numbers}
+use Rattle.request.specs.Answers.{Outcome, plan, refused}
 use Rattle.cut.specs.Cuts.{covered, split}
 use Rattle.cut.specs.Pieces.{Piece, itemsOf, cutPieces, insertAll, countedBytes}
 use Rattle.cut.specs.Joins.{joinAll}
@@ -15,7 +17,7 @@ use Rattle.cut.specs.Refs.{Ref, refOf}
 use Rattle.cut.specs.Edits.{edits}
 use Rattle.refs.specs.Compared.{among, comparedShares, comparedUnrefs}
 use Rattle.refs.specs.Drops.{Held, dropsRefusal, releases, unrefs}
-use Rattle.plan.specs.Plans.{Plan, Add, Write, refusedOr}
+use Rattle.plan.specs.Plans.{Plan, Add, Write, numbers, refusedOr}
 use Rattle.plan.specs.Places.{Wanted, placed, placesSound}
 use Rattle.plan.specs.Outputs.{Rooms, roomFor}
 use Rattle.change.specs.Preallocs.{Span, preallocPieces}
@@ -53,6 +55,10 @@ unfoldable pub writesAnew : List ℕ → List Rewrite → List Write
 writesAnew [] rs = []
 writesAnew (p ∷ ps) [] = []
 writesAnew (p ∷ ps) (r ∷ rs) = record { key = r .sector; at = p; first = r .first; end = r .end } ∷ writesAnew ps rs
+
+pub record Drafted : Type 0 where
+  pub numbers : Numbers
+  pub lengths : List ℕ
 
 module _ (g : Ground) (c : Change) where
   -- the file's items before the change
@@ -134,3 +140,11 @@ module _ (g : Ground) (c : Change) where
           refusedOr
           (firstOf (changeRefusal ∷ unless (placesSound (g .rows) places wanted) 26 ∷ unless (roomFor rooms planOf) 27 ∷ []))
           (plan planOf)
+
+    -- ---- the first half, with no place taken: all refusals but 26 and 27, the plan's numbers (each place counts as 1: they
+    -- are the same whatever places are taken), and how long each extent is that a place is wanted for
+    unfoldable pub drafted : Outcome Drafted
+    drafted =
+        cond (eqb changeRefusal 0)
+        (plan (record { numbers = numbers (planOf (replicate (length wanted) 1)); lengths = map (λ (w : Wanted). w .length) wanted }))
+        (refused changeRefusal)
