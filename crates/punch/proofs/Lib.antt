@@ -7,3 +7,4 @@ pub mod Shown
 pub mod Writes
 pub mod Starting
 pub mod Sectors
+pub mod Operating

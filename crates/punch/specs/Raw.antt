@@ -1,10 +1,17 @@
 -- What the structs and private functions of this crate say, in the terms of the definitions.
 use mathlib.Core.Bool.{Bool, cond, _&&_, not}
+use mathlib.Core.List.{List}
 use mathlib.Core.Option.{Option, none, some}
 use Prim.Native.Nat.{ℕ, max}
 use lib.Dec.{ltb}
-use Rattle.item.specs.Items.{Fields, hole, end}
-use Rattle.punch.specs.Punch.{lower}
+use Rattle.records.specs.Stages.{first}
+use Rattle.item.specs.Items.{Fields, items, hole, end}
+use Rattle.table.specs.Rows.{rows}
+use Rattle.request.specs.declared.Volume.{Volume}
+use Rattle.request.specs.declared.File.{File}
+use Rattle.request.specs.declared.Range.{Range}
+use Rattle.request.specs.Lent.{listBroken, tableBroken}
+use Rattle.punch.specs.Punch.{lower, rangeRefusal}
 use Rattle.change.specs.Changes.{Change, changeOf}
 use Rattle.punch.specs.declared.Start.{Start}
 use Rattle.punch.specs.declared.PunchPlan.{PunchPlan}
@@ -22,3 +29,7 @@ withItem offset f s = cond (not (hole f) && ltb offset (end f)) (lower s (max (f
 abbrev pub planIn : PunchPlan → (size : ℕ) → Option Change
 planIn (plan.Change c) size = some (changeOf c size)
 planIn plan.Nothing size = none
+
+-- refusals 1 to 9 from the bytes and numbers that are lent
+abbrev pub rangeLent : Volume → File → Range → (list shared table : List ℕ) → ℕ
+rangeLent v f r list shared table = first (first (listBroken list) (tableBroken table)) (rangeRefusal v f r (items list) shared (rows table))

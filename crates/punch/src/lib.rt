@@ -1,9 +1,16 @@
-// A punch: where it starts, which sectors it cuts and rewrites (`plan_punch`). The operation itself follows.
+// A punch: where it starts, which sectors it cuts and rewrites (`plan_punch`), and the operation, `punch_hole`.
 use change::RangeChange;
 use change::Rewrite;
 use item::Item;
 use records::both;
+use records::first;
+use records::sum_at_most;
 use records::sum_past;
+use records::unless;
+use request::Answer;
+use request::File;
+use request::Range;
+use request::Volume;
 ghost use mathlib.Core.Bool.{true};
 ghost use mathlib.Core.List.{[]};
 ghost use mathlib.Core.Path.{_≡_};
@@ -11,9 +18,10 @@ ghost use Prim.Native.Nat.{_+_, _<_, _^_};
 ghost use lib.ListN.{length};
 ghost use Rattle.item.specs.Items.{fields, items};
 ghost use Rattle.request.specs.Lent.{sectorSound};
+ghost use Rattle.plan.specs.Outputs.{outs, roomsOf, Met};
 ghost use Rattle.change.specs.Changes.{changeOf};
-ghost use Rattle.punch.specs.Punch.{lower, firstHeld, inOneSector, withinSector, acrossSectors, punchChange, planPunch};
-ghost use Rattle.punch.specs.Raw.{offsetIn, withItem, planIn};
+ghost use Rattle.punch.specs.Punch.{lower, firstHeld, inOneSector, withinSector, acrossSectors, punchChange, planPunch, punchLent};
+ghost use Rattle.punch.specs.Raw.{offsetIn, withItem, planIn, rangeLent};
 
 // An offset of the file, if there is one.
 pub struct Start {
@@ -183,5 +191,55 @@ pub fn plan_punch(
         PunchPlan::Change(sectors_of(list, shared, size, sector, start.at, stop))
     } else {
         PunchPlan::Nothing
+    }
+}
+
+// ---- the operation
+
+// Refusals 1 to 9 of a punch or a fallocate: of what it is lent, of its range, and record by record.
+pub fn range_refusal(
+    v: Volume,
+    f: File,
+    r: Range,
+    list: &[u8],
+    shared: &[u8],
+    table: &[u64],
+) -> u8
+    ensures { λ why. ⌜ why ≡ rangeLent v f r (now (list .entry)) (now (shared .entry)) (now (table .entry)) ⌝ }
+{
+    let lent = request::lent_refusal(v, f, list, shared, table);
+    let empty = unless(r.length != 0, 5);
+    let far = unless(sum_at_most(r.offset, r.length, 9223372036854775807), 6);
+    first(lent, first(empty, first(far, lists::records_refusal(list))))
+}
+
+// A punch of a hole into a file: the answer, and the plan in the six outputs. Any bytes may be lent.
+pub fn punch_hole(
+    v: Volume,
+    f: File,
+    r: Range,
+    list: &[u8],
+    shared: &[u8],
+    table: &[u64],
+    places: &[u64],
+    edits: &mut [u8],
+    shares: &mut [u64],
+    unrefs: &mut [u64],
+    releases: &mut [u64],
+    adds: &mut [u64],
+    writes: &mut [u64],
+) -> Answer
+    ensures { λ a. ⌜ Met (f .number) (punchLent v f r (now (list .entry)) (now (shared .entry)) (now (table .entry)) (now (places .entry)) (roomsOf (outs (now (edits .entry)) (now (shares .entry)) (now (unrefs .entry)) (now (releases .entry)) (now (adds .entry)) (now (writes .entry))))) a (outs (now (edits .entry)) (now (shares .entry)) (now (unrefs .entry)) (now (releases .entry)) (now (adds .entry)) (now (writes .entry))) (outs (now (edits .exit)) (now (shares .exit)) (now (unrefs .exit)) (now (releases .exit)) (now (adds .exit)) (now (writes .exit))) ⌝ }
+{
+    let why = range_refusal(v, f, r, list, shared, table);
+    if why != 0 {
+        return Answer::Refused(why);
+    }
+    let plan = plan_punch(list, shared, f.size, v.sector, r.offset, r.offset + r.length);
+    match plan {
+        PunchPlan::Nothing => Answer::Nothing,
+        PunchPlan::Change(c) => ranges::change_range(
+            v, f, c, list, shared, table, places, edits, shares, unrefs, releases, adds, writes,
+        ),
     }
 }

@@ -1,0 +1,125 @@
+-- From the stages of a punch to its answer. Assumes nothing.
+use mathlib.Core.Path.{_≡_, refl, ap, _∙_, sym}
+use mathlib.Core.Bool.{Bool, true, not}
+use mathlib.Core.List.{List, [], _∷_}
+use mathlib.Core.Option.{Option, none, some}
+use Prim.Native.Nat.{ℕ, zero, suc, _+_, _<_, _≤_, _^_}
+use native.Mathlib.Omega.{arith}
+use lib.Dec.{eqb, leb, ltb}
+use lib.ListN.{length}
+use borrow.Author.Tests.{eqb-true, leb-true, ltb-true}
+use Rattle.records.specs.Stages.{unless, first, firstOf, stage, every}
+use Rattle.records.proofs.Tests.{both-left, first-assoc, first-last, first-zero, firstOf-zero, unless-zero, ltb-suc}
+use Rattle.item.specs.Items.{Fields, items}
+use Rattle.table.specs.Rows.{rows}
+use Rattle.lists.specs.Lists.{recordRefusal}
+use Rattle.request.specs.declared.Volume.{Volume}
+use Rattle.request.specs.declared.File.{File}
+use Rattle.request.specs.declared.Range.{Range}
+use Rattle.request.specs.declared.Answer.the-variants.{Nothing, Refused}
+use Rattle.request.specs.Lent.{lent, lentRefusal, listBroken, tableBroken}
+use Rattle.request.specs.Answers.{Outcome, plan, nothing, refused}
+use Rattle.request.proofs.Stages.{Accepted, accepted}
+use Rattle.plan.specs.Plans.{Plan, refusedOr, orNothing}
+use Rattle.plan.specs.Outputs.{Rooms, Outs, roomsOf, Met}
+use Rattle.change.specs.declared.RangeChange.{RangeChange}
+use Rattle.change.specs.Preallocs.{pieceLimit}
+use Rattle.change.specs.Rewrites.{groundOf}
+use Rattle.change.specs.Changes.{Change, changeOf, changed}
+use Rattle.change.proofs.Fair.{Fair}
+use Rattle.ranges.specs.Raw.{Asked}
+use Rattle.ranges.proofs.Finish.{met-refused}
+use Rattle.punch.specs.Punch.{planPunch, rangeRefusal, punch, punchLent}
+use Rattle.punch.specs.Raw.{rangeLent}
+use Rattle.punch.proofs.Planned.{records-ranged, ground-items, ground-sound}
+use Rattle.punch.proofs.Fair.{asked, fair}
+
+module _ (v : Volume) (f : File) (r : Range) (list shared table : List ℕ) where
+  -- the stages as the code groups them
+  pub range-told :
+      (a b c d x y why : ℕ) (t : Bool)
+      → a ≡ lent v f list shared table
+      → b ≡ unless (not (eqb (r .length) 0)) 5
+      → t ≡ leb (r .offset + r .length) 9223372036854775807
+      → c ≡ unless t 6
+      → d ≡ stage recordRefusal (items list)
+      → x ≡ first c d
+      → y ≡ first b x
+      → why ≡ first a y
+      → why ≡ rangeLent v f r list shared table
+  unfolding rangeRefusal firstOf
+  range-told a b c d x y why t pa pb pt pc pd px py pw =
+      let l : ltb (r .offset + r .length) (2 ^ 63) ≡ leb (r .offset + r .length) 9223372036854775807 = ltb-suc (r .offset + r .length) 9223372036854775807 in
+      rw (pw, py, px, pa, pb, pc, pt, pd, l, first-last) (simp first-assoc)
+
+  -- what passes them
+  pub record Passed : Type 0 where
+    pub accepted : Accepted v f (items list) shared (rows table)
+    pub limit : r .offset + r .length < 2 ^ 63
+    pub records : stage recordRefusal (items list) ≡ 0
+
+  pub passed : rangeLent v f r list shared table ≡ 0 → Passed
+  unfolding rangeRefusal
+  passed h =
+      let z = firstOf-zero _ (first-zero _ _ h .1) in
+      record {
+        accepted = accepted v f (items list) shared (rows table) (z .0);
+        limit = ltb-true (r .offset + r .length) (2 ^ 63) (unless-zero (ltb (r .offset + r .length) (2 ^ 63)) 6 (z .1 .1 .0) (λ e. omega arith));
+        records = z .1 .1 .1 .0;
+      }
+
+  pub shares-many : Passed → length shared ≡ length (items list)
+  shares-many p = eqb-true (length shared) (length (items list)) (both-left (eqb (length shared) (length (items list))) (every (λ (b : ℕ). leb b 1) shared) (p .accepted .shares))
+
+  -- the change that is asked for is fair
+  pub asked-now : Passed → (c : RangeChange) → some (changeOf c (f .size)) ≡ planPunch (items list) (f .size) (v .sector) (r .offset) (r .offset + r .length) → Asked v f c list shared table
+  asked-now p c e =
+      let a = p .accepted in
+      let g = groundOf v f (items list) shared (rows table) in
+      let s = ground-sound v f (items list) shared (rows table) a (records-ranged (items list) (p .records)) in
+      record {
+        fair =
+            fair g (items list) (ground-items v f (items list) shared (rows table) a) s (f .size) (r .offset) (r .offset + r .length) (changeOf c (f .size))
+            (asked (items list) (f .size) (v .sector) (r .offset) (r .offset + r .length) (changeOf c (f .size)) (sym e)) (p .limit);
+        shares = shares-many p;
+        sized = leb-true (length (items list)) 65536 (a .sized);
+      }
+
+  -- ---- the answer
+
+  two-refused : (x y : ℕ) (o : Outcome Plan) → refusedOr x (refusedOr y o) ≡ refusedOr (first x y) o
+  unfolding refusedOr first
+  two-refused zero y o = refl
+  two-refused (suc x) y o = refl
+
+  refuses : (x : ℕ) (o : Outcome Plan) → (x ≡ 0 → ⊥) → refusedOr x o ≡ refused x
+  unfolding refusedOr
+  refuses zero o z = absurd (z refl)
+  refuses (suc x) o z = refl
+
+  passes : (x : ℕ) (o : Outcome Plan) → x ≡ 0 → refusedOr x o ≡ o
+  unfolding refusedOr
+  passes zero o z = refl
+  passes (suc x) o z = absurd (omega (arith, z))
+
+  module _ (places : List ℕ) (rooms : Rooms) where
+    abbrev rest : Outcome Plan
+    rest =
+        orNothing (planPunch (items list) (f .size) (v .sector) (r .offset) (r .offset + r .length))
+        (λ (c : Change). changed (groundOf v f (items list) shared (rows table)) c pieceLimit places rooms)
+
+    whole : punchLent v f r list shared table places rooms ≡ refusedOr (rangeLent v f r list shared table) rest
+    unfolding punch
+    whole = two-refused (first (listBroken list) (tableBroken table)) (rangeRefusal v f r (items list) shared (rows table)) rest
+
+    pub punch-refused : (why : ℕ) → why ≡ rangeLent v f r list shared table → (why ≡ 0 → ⊥) → punchLent v f r list shared table places rooms ≡ refused why
+    punch-refused why e z = whole ∙ rw (← e) (refuses why rest z)
+
+    pub punch-nothing : rangeLent v f r list shared table ≡ 0 → none ≡ planPunch (items list) (f .size) (v .sector) (r .offset) (r .offset + r .length) → punchLent v f r list shared table places rooms ≡ nothing
+    punch-nothing z e = whole ∙ passes _ rest z ∙ rw (← e) refl
+
+    pub punch-changed : rangeLent v f r list shared table ≡ 0 → (c : Change) → some c ≡ planPunch (items list) (f .size) (v .sector) (r .offset) (r .offset + r .length) → punchLent v f r list shared table places rooms ≡ changed (groundOf v f (items list) shared (rows table)) c pieceLimit places rooms
+    punch-changed z c e = whole ∙ passes _ rest z ∙ rw (← e) refl
+
+pub met-nothing : (file : ℕ) (o : Outcome Plan) (before : Outs) → o ≡ nothing → Met file o Nothing before before
+met-nothing file o before e = rw e (record { answer = refl; outputs = refl })
