@@ -82,7 +82,15 @@ pub fn joined_segment(v: Volume, c: RangeChange, p: Parts, list: &[u8], seg: &mu
 }
 
 // The item over a sector that takes a new extent, put into the segment.
-fn insert_new(v: Volume, f: File, new: bool, r: Rewrite, place: u64, seg: &mut [u8], s: Segment) -> Segment
+fn insert_new(
+    v: Volume,
+    f: File,
+    new: bool,
+    r: Rewrite,
+    place: u64,
+    seg: &mut [u8],
+    s: Segment,
+) -> Segment
     requires { ⌜ (v .generation + 1 < 2 ^ 64) × ((s .count + 1) * 70 ≤ length (now seg)) ⌝ }
     ensures { λ t. ⌜ PutIf new (newItem v f r place) s (now (seg .entry)) t (now (seg .exit)) ⌝ }
 {
@@ -268,6 +276,5 @@ pub fn bytes_after(list: &[u8], seg: &[u8], s: Segment) -> u64
     requires { ⌜ Good (now list) s (now seg) × (bytesOf (items (now list)) s (segmentOf s (now seg)) < 2 ^ 64) ⌝ }
     ensures { λ r. ⌜ r ≡ bytesOf (items (now (list .entry))) s (segmentOf s (now (seg .entry))) ⌝ }
 {
-    bytes_in(list, 0, s.from)
-        + (bytes_in(seg, 0, s.count) + bytes_in(list, s.to, list.len() / 70))
+    bytes_in(list, 0, s.from) + (bytes_in(seg, 0, s.count) + bytes_in(list, s.to, list.len() / 70))
 }

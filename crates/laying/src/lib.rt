@@ -93,7 +93,19 @@ fn lay_refs(
     ensures { λ r. ⌜ RefsLaid (planAt v f c p (now (list .entry)) (now (shared .entry)) (now (table .entry)) 0 0) r (now (shares .entry)) (now (unrefs .entry)) (now (releases .entry)) (now (shares .exit)) (now (unrefs .exit)) (now (releases .exit)) ⌝ }
 {
     let mut seg = [0u8; 280];
-    lay_refs_in(v, f, c, p, list, shared, table, &mut seg, shares, unrefs, releases)
+    lay_refs_in(
+        v,
+        f,
+        c,
+        p,
+        list,
+        shared,
+        table,
+        &mut seg,
+        shares,
+        unrefs,
+        releases,
+    )
 }
 
 fn lay_edits(

@@ -197,14 +197,7 @@ pub fn plan_punch(
 // ---- the operation
 
 // Refusals 1 to 9 of a punch or a fallocate: of what it is lent, of its range, and record by record.
-pub fn range_refusal(
-    v: Volume,
-    f: File,
-    r: Range,
-    list: &[u8],
-    shared: &[u8],
-    table: &[u64],
-) -> u8
+pub fn range_refusal(v: Volume, f: File, r: Range, list: &[u8], shared: &[u8], table: &[u64]) -> u8
     ensures { λ why. ⌜ why ≡ rangeLent v f r (now (list .entry)) (now (shared .entry)) (now (table .entry)) ⌝ }
 {
     let lent = request::lent_refusal(v, f, list, shared, table);
@@ -235,11 +228,30 @@ pub fn punch_hole(
     if why != 0 {
         return Answer::Refused(why);
     }
-    let plan = plan_punch(list, shared, f.size, v.sector, r.offset, r.offset + r.length);
+    let plan = plan_punch(
+        list,
+        shared,
+        f.size,
+        v.sector,
+        r.offset,
+        r.offset + r.length,
+    );
     match plan {
         PunchPlan::Nothing => Answer::Nothing,
         PunchPlan::Change(c) => ranges::change_range(
-            v, f, c, list, shared, table, places, edits, shares, unrefs, releases, adds, writes,
+            v,
+            f,
+            c,
+            list,
+            shared,
+            table,
+            places,
+            edits,
+            shares,
+            unrefs,
+            releases,
+            adds,
+            writes,
         ),
     }
 }

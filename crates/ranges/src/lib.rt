@@ -58,7 +58,21 @@ fn count_plan(
     let mut a = [0u64; 1];
     let mut w = [0u64; 1];
     laying::lay_plan(
-        v, f, c, p, 1, 1, list, shared, table, &mut e, &mut s, &mut u, &mut r, &mut a, &mut w,
+        v,
+        f,
+        c,
+        p,
+        1,
+        1,
+        list,
+        shared,
+        table,
+        &mut e,
+        &mut s,
+        &mut u,
+        &mut r,
+        &mut a,
+        &mut w,
     )
 }
 
@@ -101,11 +115,7 @@ pub fn draft_change(
 fn place_at(places: &[u64], n: usize) -> u64
     ensures { λ r. ⌜ r ≡ getD (now (places .entry)) n 0 ⌝ }
 {
-    if n < places.len() {
-        places[n]
-    } else {
-        0
-    }
+    if n < places.len() { places[n] } else { 0 }
 }
 
 // Refusals 26 and 27 of a plan that needs this much; the last six are the lengths of the outputs.
@@ -168,7 +178,21 @@ fn finish_change(
     let x = place_at(places, 0);
     let y = place_at(places, records::counted(0, changing::front_new(c, p)));
     laying::lay_plan(
-        v, f, c, p, x, y, list, shared, table, edits, shares, unrefs, releases, adds, writes,
+        v,
+        f,
+        c,
+        p,
+        x,
+        y,
+        list,
+        shared,
+        table,
+        edits,
+        shares,
+        unrefs,
+        releases,
+        adds,
+        writes,
     );
     Answer::Planned(numbers)
 }
@@ -197,7 +221,20 @@ pub fn change_range(
     match draft {
         Draft::Refused(why) => Answer::Refused(why),
         Draft::Plan(n) => finish_change(
-            v, f, c, p, n, list, shared, table, places, edits, shares, unrefs, releases, adds,
+            v,
+            f,
+            c,
+            p,
+            n,
+            list,
+            shared,
+            table,
+            places,
+            edits,
+            shares,
+            unrefs,
+            releases,
+            adds,
             writes,
         ),
     }

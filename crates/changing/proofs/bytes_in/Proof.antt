@@ -2,42 +2,31 @@ use Rattle.segment.proofs.Spans.{items-part}
 use Rattle.cut.specs.Pieces.{countedBytes}
 use Rattle.item.proofs.Laws.{items-length}
 use denote.Ref.{now}
-use mathlib.Core.Path.{_∙_, ap, sym}
+use mathlib.Core.Path.{_∙_, ap}
 use native.Mathlib.Omega.{arith}
-use borrow.Author.Needs.{needs}
 use Rattle.changing.proofs.bytes_in.Statement.{statement}
 use Rattle.changing.proofs.bytes_in.Tie as tie
-use Rattle.changing.proofs.bytes_in.Reads as reads
-use Rattle.changing.proofs.bytes_in.Lts as lts
-use Rattle.edits.proofs.counted_bytes.Reads as counted-bytes-reads
 
--- src/lib.rt:261:13
 mul-a : tie.Need-mul-a
-mul-a c = let a = c  .before .args in let q = c  .before .pre in omega (arith, q .0, q .1, items-length (now (a .list)))
+mul-a c = let a = c .before .args in let q = c .before .pre in omega (arith, q .0, q .1, items-length (now (a .list)))
 
--- src/lib.rt:262:13
 mul-b : tie.Need-mul-b
-mul-b c = let a = c  .before .args in let q = c  .before .pre in omega (arith, q .1, items-length (now (a .list)))
+mul-b c = let a = c .before .args in let q = c .before .pre in omega (arith, q .1, items-length (now (a .list)))
 
--- src/lib.rt:263:26
 sub-counted-bytes : tie.Need-sub-counted-bytes
-sub-counted-bytes c = let q = c  .before .pre in omega (arith, q .0)
+sub-counted-bytes c = let q = c .before .pre in omega (arith, q .0)
 
--- src/lib.rt:263:26
 part-counted-bytes-start : tie.Need-part-counted-bytes-start
-part-counted-bytes-start c = let q = c  .before .pre in omega (arith, q .0)
+part-counted-bytes-start c = let q = c .before .pre in omega (arith, q .0)
 
--- src/lib.rt:263:26
 part-counted-bytes-end : tie.Need-part-counted-bytes-end
-part-counted-bytes-end c = let a = c  .before .args in let q = c  .before .pre in omega (arith, q .1, items-length (now (a .list)))
+part-counted-bytes-end c = let a = c .before .args in let q = c .before .pre in omega (arith, q .1, items-length (now (a .list)))
 
--- src/lib.rt:263:5
 counted-bytes-requires : tie.Need-counted-bytes-requires
-counted-bytes-requires c κs = let a = c  .before .before .args in let q = c  .before .before .pre in rw (items-part (now (a .list)) (a .from) (a .to) (q .0) (omega (arith, q .1, items-length (now (a .list))))) (q .2)
+counted-bytes-requires c κs = let a = c .before .before .args in let q = c .before .before .pre in rw (items-part (now (a .list)) (a .from) (a .to) (q .0) (omega (arith, q .1, items-length (now (a .list))))) (q .2)
 
--- src/lib.rt:257:1
 returns : tie.Need-returns
-returns c = let a = c  .before .before .before .args in let q = c  .before .before .before .pre in c .counted-bytes .ensures ∙ ap countedBytes (items-part (now (a .list)) (a .from) (a .to) (q .0) (omega (arith, q .1, items-length (now (a .list)))))
+returns c = let a = c .before .before .before .args in let q = c .before .before .before .pre in c .counted-bytes .ensures ∙ ap countedBytes (items-part (now (a .list)) (a .from) (a .to) (q .0) (omega (arith, q .1, items-length (now (a .list)))))
 
 pub bytes-in-spec : {M : Type 1} → statement M
 bytes-in-spec =

@@ -3,29 +3,21 @@ use borrow.Author.Tests.{not-true, not-false}
 use borrow.Author.Needs.{needs}
 use Rattle.changing.proofs.join_part.Statement.{statement}
 use Rattle.changing.proofs.join_part.Tie as tie
-use Rattle.changing.proofs.join_part.Reads as reads
-use Rattle.changing.proofs.join_part.Lts as lts
-use Rattle.segment.proofs.join_around.Reads as join-around-reads
 
--- src/lib.rt:62:9
 returns : tie.Need-returns
-returns c = join-no (c  .before .before .before .before .args .h .found) _ _ _ _ _ (not-true _ (c .if1 .taken))
+returns c = join-no (c .before .before .before .before .args .h .found) _ _ _ _ _ (not-true _ (c .if1 .taken))
 
--- src/lib.rt:64:40
 add-join-around : tie.Need-add-join-around
 add-join-around c = search needs
 
--- src/lib.rt:64:5
 join-around-requires : tie.Need-join-around-requires
-join-around-requires c κs = c  .before .before .before .before .before .before .pre .1 (not-false _ (c  .before .before .if1 .left))
+join-around-requires c κs = c .before .before .before .before .before .before .pre .1 (not-false _ (c .before .before .if1 .left))
 
--- src/lib.rt:57:1
 same-length : tie.Need-same-length
 same-length c = search needs
 
--- src/lib.rt:57:1
 returns-2 : tie.Need-returns-2
-returns-2 c = join-yes (c  .before .before .before .before .before .before .before .before .before .args .h .found) _ _ _ _ _ _ _ (not-false _ (c  .before .before .before .before .before .if1 .left)) (c  .before .before .join-around .ensures)
+returns-2 c = join-yes (c .before .before .before .before .before .before .before .before .before .args .h .found) _ _ _ _ _ _ _ (not-false _ (c .before .before .before .before .before .if1 .left)) (c .before .before .join-around .ensures)
 
 pub join-part-spec : {M : Type 1} → statement M
 join-part-spec =

@@ -5,25 +5,18 @@ use mathlib.Core.Path.{refl}
 use borrow.Author.Needs.{needs}
 use Rattle.changing.proofs.put_new_add.Statement.{statement}
 use Rattle.changing.proofs.put_new_add.Tie as tie
-use Rattle.changing.proofs.put_new_add.Reads as reads
-use Rattle.changing.proofs.put_new_add.Lts as lts
-use Rattle.lines.proofs.put_add.Reads as put-add-reads
 
--- src/lib.rt:90:9
 returns : tie.Need-returns
-returns c = laid-no addNumbers _ _ _ (c  .before .before .args .new) _ _ refl (not-true _ (c .if1 .taken))
+returns c = laid-no addNumbers _ _ _ (c .before .before .args .new) _ _ refl (not-true _ (c .if1 .taken))
 
--- src/lib.rt:92:5
 put-add-requires : tie.Need-put-add-requires
 put-add-requires c κs = search needs
 
--- src/lib.rt:85:1
 same-length : tie.Need-same-length
 same-length c = search needs
 
--- src/lib.rt:85:1
 returns-2 : tie.Need-returns-2
-returns-2 c = laid-yes addNumbers _ _ _ (c  .before .before .before .before .before .before .args .new) _ _ refl _ _ _ (not-false _ (c  .before .before .before .before .if1 .left)) refl (c  .before .before .put-add .ensures)
+returns-2 c = laid-yes addNumbers _ _ _ (c .before .before .before .before .before .before .args .new) _ _ refl _ _ _ (not-false _ (c .before .before .before .before .if1 .left)) refl (c .before .before .put-add .ensures)
 
 pub put-new-add-spec : {M : Type 1} → statement M
 put-new-add-spec = tie.close (tie.spec returns put-add-requires same-length returns-2)

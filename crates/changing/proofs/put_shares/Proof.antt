@@ -8,26 +8,18 @@ use native.Mathlib.Omega.{arith}
 use borrow.Author.Needs.{needs}
 use Rattle.changing.proofs.put_shares.Statement.{statement}
 use Rattle.changing.proofs.put_shares.Tie as tie
-use Rattle.changing.proofs.put_shares.Reads as reads
-use Rattle.changing.proofs.put_shares.Lts as lts
-use Rattle.changing.proofs.put_more.Reads as put-more-reads
-use Rattle.edits.proofs.put_splits.Reads as put-splits-reads
 
--- src/lib.rt:219:9
 put-splits-requires : tie.Need-put-splits-requires
 put-splits-requires c κs = search needs
 
--- src/lib.rt:220:5
 put-more-requires : tie.Need-put-more-requires
-put-more-requires c κs = let a = c  .before .before .before .before .before .before .before .before .args in let q = c  .before .before .before .before .before .before .before .before .pre in (q .0, omega (arith, q .1, q .2, c  .before .before .before .put-splits .ensures .lines, splits-most (a .k .lo) (a .k .hi) (a .k .one ∷ a .k .two ∷ []) (items (now (a .list)))))
+put-more-requires c κs = let a = c .before .before .before .before .before .before .before .before .args in let q = c .before .before .before .before .before .before .before .before .pre in (q .0, omega (arith, q .1, q .2, c .before .before .before .put-splits .ensures .lines, splits-most (a .k .lo) (a .k .hi) (a .k .one ∷ a .k .two ∷ []) (items (now (a .list)))))
 
--- src/lib.rt:215:1
 same-length : tie.Need-same-length
 same-length c = search needs
 
--- src/lib.rt:215:1
 returns : tie.Need-returns
-returns c = laid-append refNumbers 2 _ _ _ _ _ _ _ _ (c  .before .before .before .before .before .before .put-splits .ensures) (c  .before .before .put-more .ensures)
+returns c = laid-append refNumbers 2 _ _ _ _ _ _ _ _ (c .before .before .before .before .before .before .put-splits .ensures) (c .before .before .put-more .ensures)
 
 pub put-shares-spec : {M : Type 1} → statement M
 put-shares-spec = tie.close (tie.spec put-splits-requires put-more-requires same-length returns)

@@ -11,26 +11,18 @@ use native.Mathlib.Omega.{arith}
 use borrow.Author.Needs.{needs}
 use Rattle.changing.proofs.put_unrefs.Statement.{statement}
 use Rattle.changing.proofs.put_unrefs.Tie as tie
-use Rattle.changing.proofs.put_unrefs.Reads as reads
-use Rattle.changing.proofs.put_unrefs.Lts as lts
-use Rattle.changing.proofs.put_fewer.Reads as put-fewer-reads
-use Rattle.drops.proofs.put_drops.Reads as put-drops-reads
 
--- src/lib.rt:236:9
 put-fewer-requires : tie.Need-put-fewer-requires
 put-fewer-requires c κs = search needs
 
--- src/lib.rt:237:5
 put-drops-requires : tie.Need-put-drops-requires
-put-drops-requires c κs = let a = c  .before .before .before .before .before .before .before .before .before .before .args in let q = c  .before .before .before .before .before .before .before .before .before .before .pre in let fs = items (now (a .list)) in (q .2, (q .3, omega (arith, q .1, c  .before .before .before .put-fewer .ensures .lines, compared-most (a .k .one ∷ a .k .two ∷ []) (middle fs (a .s)) (segmentOf (a .s) (now (a .seg))), middle-most fs (a .s))))
+put-drops-requires c κs = let a = c .before .before .before .before .before .before .before .before .before .before .args in let q = c .before .before .before .before .before .before .before .before .before .before .pre in let fs = items (now (a .list)) in (q .2, (q .3, omega (arith, q .1, c .before .before .before .put-fewer .ensures .lines, compared-most (a .k .one ∷ a .k .two ∷ []) (middle fs (a .s)) (segmentOf (a .s) (now (a .seg))), middle-most fs (a .s))))
 
--- src/lib.rt:224:1
 same-length : tie.Need-same-length
 same-length c = search needs
 
--- src/lib.rt:224:1
 returns : tie.Need-returns
-returns c = laid-append refNumbers 2 _ _ _ _ _ _ _ _ (c  .before .before .before .before .before .before .put-fewer .ensures) (c  .before .before .put-drops .ensures)
+returns c = laid-append refNumbers 2 _ _ _ _ _ _ _ _ (c .before .before .before .before .before .before .put-fewer .ensures) (c .before .before .put-drops .ensures)
 
 pub put-unrefs-spec : {M : Type 1} → statement M
 put-unrefs-spec = tie.close (tie.spec put-fewer-requires put-drops-requires same-length returns)

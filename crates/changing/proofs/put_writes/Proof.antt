@@ -9,40 +9,27 @@ use native.Mathlib.Omega.{arith}
 use borrow.Author.Needs.{needs}
 use Rattle.changing.proofs.put_writes.Statement.{statement}
 use Rattle.changing.proofs.put_writes.Tie as tie
-use Rattle.changing.proofs.put_writes.Reads as reads
-use Rattle.changing.proofs.put_writes.Lts as lts
-use Rattle.changing.proofs.back_new.Reads as back-new-reads
-use Rattle.changing.proofs.front_new.Reads as front-new-reads
-use Rattle.changing.proofs.put_new_write.Reads as put-new-write-reads
-use Rattle.changing.proofs.put_writes_in_place.Reads as put-writes-in-place-reads
 
--- src/lib.rt:128:9
 put-writes-in-place-requires : tie.Need-put-writes-in-place-requires
 put-writes-in-place-requires c κs = search needs
 
--- src/lib.rt:129:27
 front-new-requires : tie.Need-front-new-requires
 front-new-requires c κs = search needs
 
--- src/lib.rt:129:9
 put-new-write-requires : tie.Need-put-new-write-requires
-put-new-write-requires c κs = let a = c  .before .before .before .before .before .before .before .args in omega (arith, c  .before .before .before .before .put-writes-in-place .ensures .lines, sides-few (a .p .front .found) (a .p .back .found) (writeInPlace (a .c .front) (heldIn (a .p .front))) (writeInPlace (a .c .back) (heldIn (a .p .back))))
+put-new-write-requires c κs = let a = c .before .before .before .before .before .before .before .args in omega (arith, c .before .before .before .before .put-writes-in-place .ensures .lines, sides-few (a .p .front .found) (a .p .back .found) (writeInPlace (a .c .front) (heldIn (a .p .front))) (writeInPlace (a .c .back) (heldIn (a .p .back))))
 
--- src/lib.rt:130:19
 back-new-requires : tie.Need-back-new-requires
 back-new-requires c κs = search needs
 
--- src/lib.rt:130:5
 put-new-write-requires-2 : tie.Need-put-new-write-requires-2
-put-new-write-requires-2 c κs = let a = c  .before .before .before .before .before .before .before .before .before .before .before .before .args in omega (arith, c  .before .before .before .before .before .before .before .before .before .put-writes-in-place .ensures .lines, c  .before .before .before .before .put-new-write .ensures .lines, only-few (c  .before .before .before .before .before .before .front-new .result) (writeAt (a .c .front) (a .x)), sides-few (a .p .front .found) (a .p .back .found) (writeInPlace (a .c .front) (heldIn (a .p .front))) (writeInPlace (a .c .back) (heldIn (a .p .back))))
+put-new-write-requires-2 c κs = let a = c .before .before .before .before .before .before .before .before .before .before .before .before .args in omega (arith, c .before .before .before .before .before .before .before .before .before .put-writes-in-place .ensures .lines, c .before .before .before .before .put-new-write .ensures .lines, only-few (c .before .before .before .before .before .before .front-new .result) (writeAt (a .c .front) (a .x)), sides-few (a .p .front .found) (a .p .back .found) (writeInPlace (a .c .front) (heldIn (a .p .front))) (writeInPlace (a .c .back) (heldIn (a .p .back))))
 
--- src/lib.rt:124:1
 same-length : tie.Need-same-length
 same-length c = search needs
 
--- src/lib.rt:124:1
 returns : tie.Need-returns
-returns c = laid-append writeNumbers 4 _ _ _ _ _ _ _ _ (c  .before .before .before .before .before .before .before .before .before .before .before .before .put-writes-in-place .ensures) (laid-append writeNumbers 4 _ _ _ _ _ _ _ _ (rw (c  .before .before .before .before .before .before .before .before .before .front-new .ensures) at (c  .before .before .before .before .before .before .before .put-new-write .ensures)) (rw (c  .before .before .before .before .back-new .ensures) at (c  .before .before .put-new-write2 .ensures)))
+returns c = laid-append writeNumbers 4 _ _ _ _ _ _ _ _ (c .before .before .before .before .before .before .before .before .before .before .before .before .put-writes-in-place .ensures) (laid-append writeNumbers 4 _ _ _ _ _ _ _ _ (rw (c .before .before .before .before .before .before .before .before .before .front-new .ensures) at (c .before .before .before .before .before .before .before .put-new-write .ensures)) (rw (c .before .before .before .before .back-new .ensures) at (c .before .before .put-new-write2 .ensures)))
 
 pub put-writes-spec : {M : Type 1} → statement M
 put-writes-spec =

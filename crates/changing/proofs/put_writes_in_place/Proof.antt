@@ -7,25 +7,18 @@ use native.Mathlib.Omega.{arith}
 use borrow.Author.Needs.{needs}
 use Rattle.changing.proofs.put_writes_in_place.Statement.{statement}
 use Rattle.changing.proofs.put_writes_in_place.Tie as tie
-use Rattle.changing.proofs.put_writes_in_place.Reads as reads
-use Rattle.changing.proofs.put_writes_in_place.Lts as lts
-use Rattle.rewrites.proofs.put_in_place.Reads as put-in-place-reads
 
--- src/lib.rt:119:9
 put-in-place-requires : tie.Need-put-in-place-requires
 put-in-place-requires c κs = search needs
 
--- src/lib.rt:120:5
 put-in-place-requires-2 : tie.Need-put-in-place-requires-2
-put-in-place-requires-2 c κs = let a = c  .before .before .before .before .before .before .args in (c  .before .before .before .before .before .before .pre .1, omega (arith, c  .before .before .before .put-in-place .ensures .lines, only-few (a .p .front .found) (writeInPlace (a .c .front) (heldIn (a .p .front)))))
+put-in-place-requires-2 c κs = let a = c .before .before .before .before .before .before .args in (c .before .before .before .before .before .before .pre .1, omega (arith, c .before .before .before .put-in-place .ensures .lines, only-few (a .p .front .found) (writeInPlace (a .c .front) (heldIn (a .p .front)))))
 
--- src/lib.rt:115:1
 same-length : tie.Need-same-length
 same-length c = search needs
 
--- src/lib.rt:115:1
 returns : tie.Need-returns
-returns c = laid-append writeNumbers 4 _ _ _ _ _ _ _ _ (c  .before .before .before .before .before .before .put-in-place .ensures) (c  .before .before .put-in-place2 .ensures)
+returns c = laid-append writeNumbers 4 _ _ _ _ _ _ _ _ (c .before .before .before .before .before .before .put-in-place .ensures) (c .before .before .put-in-place2 .ensures)
 
 pub put-writes-in-place-spec : {M : Type 1} → statement M
 put-writes-in-place-spec =

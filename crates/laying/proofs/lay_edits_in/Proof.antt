@@ -1,38 +1,26 @@
 use Rattle.laying.proofs.Laying.{ready-now, rising, below, edits-laid}
 use denote.Ref.{now}
-use native.Mathlib.Omega.{arith}
 use borrow.Author.Needs.{needs}
 use Rattle.laying.proofs.lay_edits_in.Statement.{statement}
 use Rattle.laying.proofs.lay_edits_in.Tie as tie
-use Rattle.laying.proofs.lay_edits_in.Reads as reads
-use Rattle.laying.proofs.lay_edits_in.Lts as lts
-use Rattle.changing.proofs.bytes_after.Reads as bytes-after-reads
-use Rattle.changing.proofs.changed_segment.Reads as changed-segment-reads
-use Rattle.changing.proofs.put_changes.Reads as put-changes-reads
 
--- src/lib.rt:67:9
 changed-segment-requires : tie.Need-changed-segment-requires
-changed-segment-requires c κs = let a = c  .before .before .before .before .before .before .args in let q = c  .before .before .before .before .before .before .pre in (ready-now (a .v) (a .f) (a .c) (a .p) (now (a .list)) (now (a .shared)) (now (a .table)) (q .0), q .1)
+changed-segment-requires c κs = let a = c .before .before .before .before .before .before .args in let q = c .before .before .before .before .before .before .pre in (ready-now (a .v) (a .f) (a .c) (a .p) (now (a .list)) (now (a .shared)) (now (a .table)) (q .0), q .1)
 
--- src/lib.rt:69:16
 put-changes-requires : tie.Need-put-changes-requires
-put-changes-requires c κs = let a = c  .before .before .before .before .before .before .before .before .before .before .before .args in let q = c  .before .before .before .before .before .before .before .before .before .before .before .pre .0 in let m = c  .before .before .before .before .changed-segment .ensures in let r = rising (a .v) (a .f) (a .c) (a .p) (now (a .list)) (now (a .shared)) (now (a .table)) q (a .x) (a .y) _ _ m in (m .good, r .0, r .1, q .sized, m .few)
+put-changes-requires c κs = let a = c .before .before .before .before .before .before .before .before .before .before .before .args in let q = c .before .before .before .before .before .before .before .before .before .before .before .pre .0 in let m = c .before .before .before .before .changed-segment .ensures in let r = rising (a .v) (a .f) (a .c) (a .p) (now (a .list)) (now (a .shared)) (now (a .table)) q (a .x) (a .y) _ _ m in (m .good, r .0, r .1, q .sized, m .few)
 
--- src/lib.rt:70:16
 bytes-after-requires : tie.Need-bytes-after-requires
-bytes-after-requires c κs = let a = c  .before .before .before .before .before .before .before .before .before .before .before .before .before .before .before .args in let q = c  .before .before .before .before .before .before .before .before .before .before .before .before .before .before .before .pre .0 in let m = c  .before .before .before .before .before .before .before .before .changed-segment .ensures in (m .good, below (a .v) (a .f) (a .c) (a .p) (now (a .list)) (now (a .shared)) (now (a .table)) q (a .x) (a .y) _ _ m)
+bytes-after-requires c κs = let a = c .before .before .before .before .before .before .before .before .before .before .before .before .before .before .before .args in let q = c .before .before .before .before .before .before .before .before .before .before .before .before .before .before .before .pre .0 in let m = c .before .before .before .before .before .before .before .before .changed-segment .ensures in (m .good, below (a .v) (a .f) (a .c) (a .p) (now (a .list)) (now (a .shared)) (now (a .table)) q (a .x) (a .y) _ _ m)
 
--- src/lib.rt:51:1
 same-length : tie.Need-same-length
 same-length c = search needs
 
--- src/lib.rt:51:1
 same-length-2 : tie.Need-same-length-2
 same-length-2 c = search needs
 
--- src/lib.rt:51:1
 returns : tie.Need-returns
-returns c = let a = c  .before .before .before .before .before .before .before .before .before .before .before .before .before .before .before .before .args in let q = c  .before .before .before .before .before .before .before .before .before .before .before .before .before .before .before .before .pre .0 in edits-laid (a .v) (a .f) (a .c) (a .p) (now (a .list)) (now (a .shared)) (now (a .table)) q (a .x) (a .y) _ _ (c  .before .before .before .before .before .before .before .before .before .changed-segment .ensures) _ _ _ _ (c  .before .before .before .before .put-changes .ensures) (c .bytes-after .ensures)
+returns c = let a = c .before .before .before .before .before .before .before .before .before .before .before .before .before .before .before .before .args in let q = c .before .before .before .before .before .before .before .before .before .before .before .before .before .before .before .before .pre .0 in edits-laid (a .v) (a .f) (a .c) (a .p) (now (a .list)) (now (a .shared)) (now (a .table)) q (a .x) (a .y) _ _ (c .before .before .before .before .before .before .before .before .before .changed-segment .ensures) _ _ _ _ (c .before .before .before .before .put-changes .ensures) (c .bytes-after .ensures)
 
 pub lay-edits-in-spec : {M : Type 1} → statement M
 lay-edits-in-spec =

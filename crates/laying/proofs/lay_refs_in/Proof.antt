@@ -4,53 +4,36 @@ use native.Mathlib.Omega.{arith}
 use borrow.Author.Needs.{needs}
 use Rattle.laying.proofs.lay_refs_in.Statement.{statement}
 use Rattle.laying.proofs.lay_refs_in.Tie as tie
-use Rattle.laying.proofs.lay_refs_in.Reads as reads
-use Rattle.laying.proofs.lay_refs_in.Lts as lts
-use Rattle.changing.proofs.cut_of.Reads as cut-of-reads
-use Rattle.changing.proofs.joined_segment.Reads as joined-segment-reads
-use Rattle.changing.proofs.put_shares.Reads as put-shares-reads
-use Rattle.changing.proofs.put_unrefs.Reads as put-unrefs-reads
-use Rattle.drops.proofs.put_drops.Reads as put-drops-reads
 
--- src/lib.rt:41:9
 cut-of-requires : tie.Need-cut-of-requires
 cut-of-requires c κs = search needs
 
--- src/lib.rt:42:9
 joined-segment-requires : tie.Need-joined-segment-requires
-joined-segment-requires c κs = let a = c  .before .before .before .before .before .before .before .before .before .args in let q = c  .before .before .before .before .before .before .before .before .before .pre in (ready-now (a .v) (a .f) (a .c) (a .p) (now (a .list)) (now (a .shared)) (now (a .table)) (q .0), q .1)
+joined-segment-requires c κs = let a = c .before .before .before .before .before .before .before .before .before .args in let q = c .before .before .before .before .before .before .before .before .before .pre in (ready-now (a .v) (a .f) (a .c) (a .p) (now (a .list)) (now (a .shared)) (now (a .table)) (q .0), q .1)
 
--- src/lib.rt:44:17
 put-shares-requires : tie.Need-put-shares-requires
-put-shares-requires c κs = let q = c  .before .before .before .before .before .before .before .before .before .before .before .before .before .before .pre .0 in let m = c  .before .before .before .before .joined-segment .ensures in (m .good, q .sized, m .few)
+put-shares-requires c κs = let q = c .before .before .before .before .before .before .before .before .before .before .before .before .before .before .pre .0 in let m = c .before .before .before .before .joined-segment .ensures in (m .good, q .sized, m .few)
 
--- src/lib.rt:45:17
 put-unrefs-requires : tie.Need-put-unrefs-requires
-put-unrefs-requires c κs = let q = c  .before .before .before .before .before .before .before .before .before .before .before .before .before .before .before .before .before .before .before .pre .0 in let m = c  .before .before .before .before .before .before .before .before .before .joined-segment .ensures in (m .good, q .sized, q .fair .sound .table, q .shares)
+put-unrefs-requires c κs = let q = c .before .before .before .before .before .before .before .before .before .before .before .before .before .before .before .before .before .before .before .pre .0 in let m = c .before .before .before .before .before .before .before .before .before .joined-segment .ensures in (m .good, q .sized, q .fair .sound .table, q .shares)
 
--- src/lib.rt:46:19
 put-drops-requires : tie.Need-put-drops-requires
-put-drops-requires c κs = let q = c  .before .before .before .before .before .before .before .before .before .before .before .before .before .before .before .before .before .before .before .before .before .before .before .pre .0 in (q .fair .sound .table, (q .shares, omega (arith, q .sized)))
+put-drops-requires c κs = let q = c .before .before .before .before .before .before .before .before .before .before .before .before .before .before .before .before .before .before .before .before .before .before .before .pre .0 in (q .fair .sound .table, (q .shares, omega (arith, q .sized)))
 
--- src/lib.rt:25:1
 same-length : tie.Need-same-length
 same-length c = search needs
 
--- src/lib.rt:25:1
 same-length-2 : tie.Need-same-length-2
 same-length-2 c = search needs
 
--- src/lib.rt:25:1
 same-length-3 : tie.Need-same-length-3
 same-length-3 c = search needs
 
--- src/lib.rt:25:1
 same-length-4 : tie.Need-same-length-4
 same-length-4 c = search needs
 
--- src/lib.rt:25:1
 returns : tie.Need-returns
-returns c = let a = c  .before .before .before .before .before .before .before .before .before .before .before .before .before .before .before .before .before .before .before .before .before .before .before .before .before .before .args in let q = c  .before .before .before .before .before .before .before .before .before .before .before .before .before .before .before .before .before .before .before .before .before .before .before .before .before .before .pre .0 in refs-laid (a .v) (a .f) (a .c) (a .p) (now (a .list)) (now (a .shared)) (now (a .table)) q _ (c  .before .before .before .before .before .before .before .before .before .before .before .before .before .before .before .before .before .before .cut-of .ensures) _ _ (c  .before .before .before .before .before .before .before .before .before .before .before .before .before .before .before .before .joined-segment .ensures) _ _ _ _ _ _ _ _ _ (c  .before .before .before .before .before .before .before .before .before .before .before .put-shares .ensures) (c  .before .before .before .before .before .before .put-unrefs .ensures) (c  .before .before .put-drops .ensures)
+returns c = let a = c .before .before .before .before .before .before .before .before .before .before .before .before .before .before .before .before .before .before .before .before .before .before .before .before .before .before .args in let q = c .before .before .before .before .before .before .before .before .before .before .before .before .before .before .before .before .before .before .before .before .before .before .before .before .before .before .pre .0 in refs-laid (a .v) (a .f) (a .c) (a .p) (now (a .list)) (now (a .shared)) (now (a .table)) q _ (c .before .before .before .before .before .before .before .before .before .before .before .before .before .before .before .before .before .before .cut-of .ensures) _ _ (c .before .before .before .before .before .before .before .before .before .before .before .before .before .before .before .before .joined-segment .ensures) _ _ _ _ _ _ _ _ _ (c .before .before .before .before .before .before .before .before .before .before .before .put-shares .ensures) (c .before .before .before .before .before .before .put-unrefs .ensures) (c .before .before .put-drops .ensures)
 
 pub lay-refs-in-spec : {M : Type 1} → statement M
 lay-refs-in-spec =

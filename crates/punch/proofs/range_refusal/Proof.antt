@@ -3,49 +3,33 @@ use denote.Ref.{now}
 use borrow.Author.Needs.{needs}
 use Rattle.punch.proofs.range_refusal.Statement.{statement}
 use Rattle.punch.proofs.range_refusal.Tie as tie
-use Rattle.punch.proofs.range_refusal.Reads as reads
-use Rattle.punch.proofs.range_refusal.Lts as lts
-use Rattle.lists.proofs.records_refusal.Reads as records-refusal-reads
-use Rattle.records.proofs.first.Reads as first-reads
-use Rattle.records.proofs.sum_at_most.Reads as sum-at-most-reads
-use Rattle.records.proofs.unless.Reads as unless-reads
-use Rattle.request.proofs.lent_refusal.Reads as lent-refusal-reads
 
--- src/lib.rt:210:9
 lent-refusal-requires : tie.Need-lent-refusal-requires
 lent-refusal-requires c κs = search needs
 
--- src/lib.rt:211:9
 unless-requires : tie.Need-unless-requires
 unless-requires c κs = search needs
 
--- src/lib.rt:212:22
 sum-at-most-requires : tie.Need-sum-at-most-requires
 sum-at-most-requires c κs = search needs
 
--- src/lib.rt:212:9
 unless-requires-2 : tie.Need-unless-requires-2
 unless-requires-2 c κs = search needs
 
--- src/lib.rt:213:41
 records-refusal-requires : tie.Need-records-refusal-requires
 records-refusal-requires c κs = search needs
 
--- src/lib.rt:213:30
 first-requires : tie.Need-first-requires
 first-requires c κs = search needs
 
--- src/lib.rt:213:17
 first-requires-2 : tie.Need-first-requires-2
 first-requires-2 c κs = search needs
 
--- src/lib.rt:213:5
 first-requires-3 : tie.Need-first-requires-3
 first-requires-3 c κs = search needs
 
--- src/lib.rt:200:1
 returns : tie.Need-returns
-returns c = let a = c  .before .before .before .before .before .before .before .before .before .before .before .before .args in range-told (a .v) (a .f) (a .r) (now (a .list)) (now (a .shared)) (now (a .table)) _ _ _ _ _ _ _ _ (c  .before .before .before .before .before .before .before .before .lent-refusal .ensures) (c  .before .before .before .before .before .before .unless .ensures) (c  .before .before .before .before .before .sum-at-most .ensures) (c  .before .before .before .before .unless2 .ensures) (c  .before .before .before .records-refusal .ensures) (c  .before .before .first .ensures) (c  .before .first2 .ensures) (c .first3 .ensures)
+returns c = let a = c .before .before .before .before .before .before .before .before .before .before .before .before .args in range-told (a .v) (a .f) (a .r) (now (a .list)) (now (a .shared)) (now (a .table)) _ _ _ _ _ _ _ _ (c .before .before .before .before .before .before .before .before .lent-refusal .ensures) (c .before .before .before .before .before .before .unless .ensures) (c .before .before .before .before .before .sum-at-most .ensures) (c .before .before .before .before .unless2 .ensures) (c .before .before .before .records-refusal .ensures) (c .before .before .first .ensures) (c .before .first2 .ensures) (c .first3 .ensures)
 
 pub range-refusal-spec : {M : Type 1} → statement M
 range-refusal-spec =

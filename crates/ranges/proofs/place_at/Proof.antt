@@ -4,24 +4,18 @@ use mathlib.Core.Path.{sym}
 use borrow.Author.Needs.{needs}
 use Rattle.ranges.proofs.place_at.Statement.{statement}
 use Rattle.ranges.proofs.place_at.Tie as tie
-use Rattle.ranges.proofs.place_at.Reads as reads
-use Rattle.ranges.proofs.place_at.Lts as lts
 
--- src/lib.rt:105:9
 mul-result : tie.Need-mul-result
 mul-result c = search needs
 
--- src/lib.rt:105:9
 shared-slice-read-result : tie.Need-shared-slice-read-result
 shared-slice-read-result c = search needs
 
--- src/lib.rt:101:1
 returns : tie.Need-returns
 returns c = search needs
 
--- src/lib.rt:101:1
 returns-2 : tie.Need-returns-2
-returns-2 c = sym (List·getD-eq-default (now (c  .before .args .places)) 0 (c .if1 .left))
+returns-2 c = sym (List·getD-eq-default (now (c .before .args .places)) 0 (c .if1 .left))
 
 pub place-at-spec : {M : Type 1} → statement M
 place-at-spec = tie.close (tie.spec mul-result shared-slice-read-result returns returns-2)

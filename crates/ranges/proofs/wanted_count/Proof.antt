@@ -1,36 +1,23 @@
 use Rattle.ranges.proofs.Finish.{two-counted, one-few}
 use native.Mathlib.Omega.{arith}
-use Prim.Native.Nat.{ℕ, _+_}
-use mathlib.Core.Bool.{Bool, cond}
-use mathlib.Core.Path.{_∙_, ap, ap₂, refl}
 use borrow.Author.Needs.{needs}
 use Rattle.ranges.proofs.wanted_count.Statement.{statement}
 use Rattle.ranges.proofs.wanted_count.Tie as tie
-use Rattle.ranges.proofs.wanted_count.Reads as reads
-use Rattle.ranges.proofs.wanted_count.Lts as lts
-use Rattle.changing.proofs.back_new.Reads as back-new-reads
-use Rattle.changing.proofs.front_new.Reads as front-new-reads
-use Rattle.records.proofs.counted.Reads as counted-reads
 
--- src/lib.rt:69:29
 front-new-requires : tie.Need-front-new-requires
 front-new-requires c κs = search needs
 
--- src/lib.rt:69:9
 counted-requires : tie.Need-counted-requires
 counted-requires c κs = search needs
 
--- src/lib.rt:70:9
 back-new-requires : tie.Need-back-new-requires
 back-new-requires c κs = search needs
 
--- src/lib.rt:68:5
 counted-requires-2 : tie.Need-counted-requires-2
-counted-requires-2 c κs = omega (arith, one-few (c  .before .before .front-new .result) _ (c  .before .counted .ensures))
+counted-requires-2 c κs = omega (arith, one-few (c .before .before .front-new .result) _ (c .before .counted .ensures))
 
--- src/lib.rt:65:1
 returns : tie.Need-returns
-returns c = two-counted (c  .before .before .before .front-new .result) (c  .before .back-new .result) _ _ _ _ (c  .before .before .counted .ensures) (c .counted2 .ensures) (c  .before .before .before .front-new .ensures) (c  .before .back-new .ensures)
+returns c = two-counted (c .before .before .before .front-new .result) (c .before .back-new .result) _ _ _ _ (c .before .before .counted .ensures) (c .counted2 .ensures) (c .before .before .before .front-new .ensures) (c .before .back-new .ensures)
 
 pub wanted-count-spec : {M : Type 1} → statement M
 wanted-count-spec =

@@ -4,22 +4,15 @@ use mathlib.Core.Path.{_∙_, ap}
 use borrow.Author.Needs.{needs}
 use Rattle.rewrites.proofs.extent_in_place.Statement.{statement}
 use Rattle.rewrites.proofs.extent_in_place.Tie as tie
-use Rattle.rewrites.proofs.extent_in_place.Reads as reads
-use Rattle.rewrites.proofs.extent_in_place.Lts as lts
-use Rattle.item.proofs.Item.extent_start.Reads as extent-start-reads
-use Rattle.records.proofs.pick.Reads as pick-reads
 
--- src/lib.rt:152:28
 extent-start-requires : tie.Need-extent-start-requires
 extent-start-requires c κs = search needs
 
--- src/lib.rt:152:5
 pick-requires : tie.Need-pick-requires
 pick-requires c κs = search needs
 
--- src/lib.rt:148:1
 returns : tie.Need-returns
-returns c = c .pick .ensures ∙ ap (λ (x : ℕ). cond (c  .before .before .before .args .h .found) x 0) (c  .before .extent-start .ensures)
+returns c = c .pick .ensures ∙ ap (λ (x : ℕ). cond (c .before .before .before .args .h .found) x 0) (c .before .extent-start .ensures)
 
 pub extent-in-place-spec : {M : Type 1} → statement M
 extent-in-place-spec = tie.close (tie.spec extent-start-requires pick-requires returns)

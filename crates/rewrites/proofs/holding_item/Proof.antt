@@ -29,10 +29,10 @@ is-holding-requires : tie.Need-is-holding-requires Inv-loop μ-loop
 is-holding-requires c κs = search needs
 
 shared-slice-read-t11 : tie.Need-shared-slice-read-t11 Inv-loop μ-loop
-shared-slice-read-t11 c = let a = c  .before .before .before .before .before .before .before .before .args in omega (arith, items-length (now (a .list)))
+shared-slice-read-t11 c = let a = c .before .before .before .before .before .before .before .before .args in omega (arith, items-length (now (a .list)))
 
 returns : tie.Need-returns Inv-loop μ-loop
-returns c = let a = c  .before .before .before .before .before .before .before .before .args in holder-stop (a .o) (now (a .list)) (now (a .shared)) _ _ _ _ (omega arith) (omega (arith, items-length (now (a .list)))) (item-decode _ _ (c  .before .before .before .item-at .ensures)) (c  .before .before .is-holding .ensures) (c  .before .if1 .taken) ∙ c  .before .before .before .before .before .loop .inv .1
+returns c = let a = c .before .before .before .before .before .before .before .before .args in holder-stop (a .o) (now (a .list)) (now (a .shared)) _ _ _ _ (omega arith) (omega (arith, items-length (now (a .list)))) (item-decode _ _ (c .before .before .before .item-at .ensures)) (c .before .before .is-holding .ensures) (c .before .if1 .taken) ∙ c .before .before .before .before .before .loop .inv .1
 
 add-i : tie.Need-add-i Inv-loop μ-loop
 add-i c = omega arith
@@ -41,13 +41,13 @@ loop-less : tie.Need-loop-less Inv-loop μ-loop
 loop-less c = omega arith
 
 loop-again : tie.Need-loop-again Inv-loop μ-loop
-loop-again c = let a = c  .before .before .before .before .before .before .before .args in (omega arith, holder-turn (a .o) (now (a .list)) (now (a .shared)) _ _ _ _ (omega arith) (omega (arith, items-length (now (a .list)))) (item-decode _ _ (c  .before .before .item-at .ensures)) (c  .before .is-holding .ensures) (c .if1 .left) ∙ c  .before .before .before .before .loop .inv .1)
+loop-again c = let a = c .before .before .before .before .before .before .before .args in (omega arith, holder-turn (a .o) (now (a .list)) (now (a .shared)) _ _ _ _ (omega arith) (omega (arith, items-length (now (a .list)))) (item-decode _ _ (c .before .before .item-at .ensures)) (c .before .is-holding .ensures) (c .if1 .left) ∙ c .before .before .before .before .loop .inv .1)
 
 regular-extent-item-requires : tie.Need-regular-extent-item-requires Inv-loop μ-loop
 regular-extent-item-requires c κs = search needs
 
 returns-2 : tie.Need-returns-2 Inv-loop μ-loop
-returns-2 c = let a = c  .before .before .before .before .before .args in holder-done (a .o) (now (a .list)) (now (a .shared)) _ _ (c  .before .loop-test .left) ∙ c  .before .before .loop .inv .1
+returns-2 c = let a = c .before .before .before .before .before .args in holder-done (a .o) (now (a .list)) (now (a .shared)) _ _ (c .before .loop-test .left) ∙ c .before .before .loop .inv .1
 
 pub holding-item-spec : {M : Type 1} → statement M
 holding-item-spec =

@@ -21,7 +21,7 @@ enum-told : tie.Need-enum-told
 enum-told c = search needs
 
 returns : tie.Need-returns
-returns c = let a = c  .before .before .before .before .before .before .before .args in in-place-missing (a .v .sector) (a .v .snapshot) (items (now (a .list))) (rows (now (a .table))) (a .r) (heldIn (a .h)) _ (c  .before .before .before .extent-start .ensures) (sym (c .enum-told .given .1) ∙ c  .before .before .find-row .ensures)
+returns c = let a = c .before .before .before .before .before .before .before .args in in-place-missing (a .v .sector) (a .v .snapshot) (items (now (a .list))) (rows (now (a .table))) (a .r) (heldIn (a .h)) _ (c .before .before .before .extent-start .ensures) (sym (c .enum-told .given .1) ∙ c .before .before .find-row .ensures)
 
 position-of-requires : tie.Need-position-of-requires
 position-of-requires c κs = search needs
@@ -48,7 +48,7 @@ first-requires : tie.Need-first-requires
 first-requires c κs = search needs
 
 returns-2 : tie.Need-returns-2
-returns-2 c = let a = c  .before .before .before .before .before .before .before .before .before .before .before .before .before .before .before .before .before .before .before .before .args in in-place-found (a .v .sector) (a .v .snapshot) (items (now (a .list))) (rows (now (a .table))) (a .r) (heldIn (a .h)) _ _ _ _ _ _ _ _ _ _ _ (c  .before .before .before .before .before .before .before .before .before .before .before .before .before .before .before .before .extent-start .ensures) (sym (c  .before .before .before .before .before .before .before .before .before .before .before .before .before .row .given .1) ∙ c  .before .before .before .before .before .before .before .before .before .before .before .before .before .before .before .find-row .ensures) (c  .before .before .before .before .before .before .before .before .before .before .before .position-of .ensures) (c  .before .before .before .before .before .before .before .before .before .before .item-window-inside .ensures) (c  .before .before .before .before .before .before .before .before .before .naming .ensures) (c  .before .before .before .before .before .before .before .unless .ensures) (c  .before .before .before .both .ensures) (c  .before .before .both2 .ensures) (c  .before .unless2 .ensures) (c .first .ensures)
+returns-2 c = let a = c .before .before .before .before .before .before .before .before .before .before .before .before .before .before .before .before .before .before .before .before .args in in-place-found (a .v .sector) (a .v .snapshot) (items (now (a .list))) (rows (now (a .table))) (a .r) (heldIn (a .h)) _ _ _ _ _ _ _ _ _ _ _ (c .before .before .before .before .before .before .before .before .before .before .before .before .before .before .before .before .extent-start .ensures) (sym (c .before .before .before .before .before .before .before .before .before .before .before .before .before .row .given .1) ∙ c .before .before .before .before .before .before .before .before .before .before .before .before .before .before .before .find-row .ensures) (c .before .before .before .before .before .before .before .before .before .before .before .position-of .ensures) (c .before .before .before .before .before .before .before .before .before .before .item-window-inside .ensures) (c .before .before .before .before .before .before .before .before .before .naming .ensures) (c .before .before .before .before .before .before .before .unless .ensures) (c .before .before .before .both .ensures) (c .before .before .both2 .ensures) (c .before .unless2 .ensures) (c .first .ensures)
 
 pub in-place-refusal-spec : {M : Type 1} → statement M
 in-place-refusal-spec =

@@ -22,7 +22,7 @@ both-requires-2 : tie.Need-both-requires-2
 both-requires-2 c κs = search needs
 
 returns : tie.Need-returns
-returns c = let a = c  .before .before .before .before .before .before .args in c .both2 .ensures ∙ ap₂ (λ (x y : Bool). x && y) (c  .before .before .before .before .before .is-named .ensures) (c  .before .both .ensures ∙ ap (λ (x : Bool). leb (a .item .key) (a .o) && x) (c  .before .before .sum-past .ensures ∙ ap (λ (x : ℕ). ltb (a .o) (a .item .key + x)) (c  .before .before .before .length .ensures)))
+returns c = let a = c .before .before .before .before .before .before .args in c .both2 .ensures ∙ ap₂ (λ (x y : Bool). x && y) (c .before .before .before .before .before .is-named .ensures) (c .before .both .ensures ∙ ap (λ (x : Bool). leb (a .item .key) (a .o) && x) (c .before .before .sum-past .ensures ∙ ap (λ (x : ℕ). ltb (a .o) (a .item .key + x)) (c .before .before .before .length .ensures)))
 
 pub is-holding-spec : {M : Type 1} → statement M
 is-holding-spec =

@@ -4,26 +4,18 @@ use mathlib.Core.Path.{_∙_, ap}
 use borrow.Author.Needs.{needs}
 use Rattle.rewrites.proofs.item_in_place.Statement.{statement}
 use Rattle.rewrites.proofs.item_in_place.Tie as tie
-use Rattle.rewrites.proofs.item_in_place.Reads as reads
-use Rattle.rewrites.proofs.item_in_place.Lts as lts
-use Rattle.item.proofs.Item.written_in_place.Reads as written-in-place-reads
-use Rattle.rewrites.proofs.position_of.Reads as position-of-reads
 
--- src/lib.rt:161:37
 add-written-in-place : tie.Need-add-written-in-place
 add-written-in-place c = search needs
 
--- src/lib.rt:161:55
 position-of-requires : tie.Need-position-of-requires
 position-of-requires c κs = search needs
 
--- src/lib.rt:161:5
 written-in-place-requires : tie.Need-written-in-place-requires
 written-in-place-requires c κs = search needs
 
--- src/lib.rt:156:1
 returns : tie.Need-returns
-returns c = let a = c  .before .before .before .before .args in c .written-in-place .ensures ∙ ap (λ (x : ℕ). writtenInPlace (fields (a .h .item)) (a .r .sector) (a .v .generation + 1) x (a .v .sector)) (c  .before .position-of .ensures)
+returns c = let a = c .before .before .before .before .args in c .written-in-place .ensures ∙ ap (λ (x : ℕ). writtenInPlace (fields (a .h .item)) (a .r .sector) (a .v .generation + 1) x (a .v .sector)) (c .before .position-of .ensures)
 
 pub item-in-place-spec : {M : Type 1} → statement M
 item-in-place-spec =

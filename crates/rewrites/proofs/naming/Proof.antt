@@ -30,7 +30,7 @@ is-naming-requires : tie.Need-is-naming-requires Inv-loop μ-loop
 is-naming-requires c κs = search needs
 
 counted-requires : tie.Need-counted-requires Inv-loop μ-loop
-counted-requires c κs = let l = c  .before .before .before .loop in let s = now (c  .before .before .before .before .before .args .list) in omega (arith, l .inv .1, count-length (names (c  .before .before .before .before .before .args .start)) (items s), items-length s)
+counted-requires c κs = let l = c .before .before .before .loop in let s = now (c .before .before .before .before .before .args .list) in omega (arith, l .inv .1, count-length (names (c .before .before .before .before .before .args .start)) (items s), items-length s)
 
 add-i : tie.Need-add-i Inv-loop μ-loop
 add-i c = omega arith
@@ -39,10 +39,10 @@ loop-less : tie.Need-loop-less Inv-loop μ-loop
 loop-less c = omega arith
 
 loop-again : tie.Need-loop-again Inv-loop μ-loop
-loop-again c = (omega arith, count-turn decode 70 (names _) _ _ _ _ _ _ _ (omega arith) (item-decode _ _ (c  .before .before .item-at .ensures)) (c  .before .is-naming .ensures) (c .counted .ensures) ∙ c  .before .before .before .before .loop .inv .1)
+loop-again c = (omega arith, count-turn decode 70 (names _) _ _ _ _ _ _ _ (omega arith) (item-decode _ _ (c .before .before .item-at .ensures)) (c .before .is-naming .ensures) (c .counted .ensures) ∙ c .before .before .before .before .loop .inv .1)
 
 returns : tie.Need-returns Inv-loop μ-loop
-returns c = count-done decode 70 (names _) _ _ _ _ (c .loop-test .left) ∙ c  .before .loop .inv .1
+returns c = count-done decode 70 (names _) _ _ _ _ (c .loop-test .left) ∙ c .before .loop .inv .1
 
 pub naming-spec : {M : Type 1} → statement M
 naming-spec =

@@ -9,10 +9,10 @@ position-requires : tie.Need-position-requires
 position-requires c κs = search needs
 
 sub-result : tie.Need-sub-result
-sub-result c = let a = c  .before .before .before .before in position-facts (fields (a .args .h .item)) (a .args .r .sector) (a .pre .0) (a .pre .1) .0
+sub-result c = let a = c .before .before .before .before in position-facts (fields (a .args .h .item)) (a .args .r .sector) (a .pre .0) (a .pre .1) .0
 
 add-result : tie.Need-add-result
-add-result c = let a = c  .before .before .before .before in let e = c  .before .before .position .ensures in omega (arith, e, position-facts (fields (a .args .h .item)) (a .args .r .sector) (a .pre .0) (a .pre .1) .1)
+add-result c = let a = c .before .before .before .before in let e = c .before .before .position .ensures in omega (arith, e, position-facts (fields (a .args .h .item)) (a .args .r .sector) (a .pre .0) (a .pre .1) .1)
 
 returns : tie.Need-returns
 returns c = search needs

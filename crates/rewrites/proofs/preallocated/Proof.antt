@@ -5,31 +5,21 @@ use denote.Ref.{now}
 use borrow.Author.Needs.{needs}
 use Rattle.rewrites.proofs.preallocated.Statement.{statement}
 use Rattle.rewrites.proofs.preallocated.Tie as tie
-use Rattle.rewrites.proofs.preallocated.Reads as reads
-use Rattle.rewrites.proofs.preallocated.Lts as lts
-use Rattle.item.proofs.Item.kind.Reads as kind-reads
-use Rattle.records.proofs.both.Reads as both-reads
-use Rattle.rewrites.proofs.holding_item.Reads as holding-item-reads
 
--- src/lib.rt:138:9
 holding-item-requires : tie.Need-holding-item-requires
 holding-item-requires c κs = search needs
 
--- src/lib.rt:141:40
 kind-requires : tie.Need-kind-requires
 kind-requires c κs = search needs
 
--- src/lib.rt:141:26
 both-requires : tie.Need-both-requires
 both-requires c κs = search needs
 
--- src/lib.rt:141:16
 both-requires-2 : tie.Need-both-requires-2
 both-requires-2 c κs = search needs
 
--- src/lib.rt:134:1
 returns : tie.Need-returns
-returns c = let a = c  .before .before .before .before .before .before .before .args in found-preallocated (a .has) (a .r) (held (items (now (a .list))) (now (a .shared))) (c  .before .before .before .before .holding-item .result) _ _ _ (c  .before .before .before .before .holding-item .ensures) (c  .before .before .kind .ensures) (c  .before .both .ensures) (c .both2 .ensures)
+returns c = let a = c .before .before .before .before .before .before .before .args in found-preallocated (a .has) (a .r) (held (items (now (a .list))) (now (a .shared))) (c .before .before .before .before .holding-item .result) _ _ _ (c .before .before .before .before .holding-item .ensures) (c .before .before .kind .ensures) (c .before .both .ensures) (c .both2 .ensures)
 
 pub preallocated-spec : {M : Type 1} → statement M
 preallocated-spec =

@@ -1,48 +1,33 @@
 use mathlib.Core.Path.{_≡_}
 use Rattle.lines.proofs.Laws.{laid-none}
-use Rattle.rewrites.specs.Raw.{heldIn}
 use Rattle.plan.specs.Outputs.{writeNumbers}
 use borrow.Author.Tests.{not-true, not-false}
-use mathlib.Core.List.{[], _∷_}
-use mathlib.Core.Bool.{Bool, true, false}
-use mathlib.Core.Path.{_∙_, ap, refl}
+use mathlib.Core.Bool.{true, false}
 use native.Mathlib.Omega.{arith}
 use borrow.Author.Needs.{needs}
 use Rattle.rewrites.proofs.put_in_place.Statement.{statement}
 use Rattle.rewrites.proofs.put_in_place.Tie as tie
-use Rattle.rewrites.proofs.put_in_place.Reads as reads
-use Rattle.rewrites.proofs.put_in_place.Lts as lts
-use Rattle.item.proofs.Item.extent_start.Reads as extent-start-reads
-use Rattle.lines.proofs.put_write.Reads as put-write-reads
-use Rattle.rewrites.proofs.position_of.Reads as position-of-reads
 
--- src/lib.rt:170:9
 returns : tie.Need-returns
-returns c = let z : c  .before .before .before .args .h .found ≡ false = not-true _ (c .if1 .taken) in rw z (laid-none writeNumbers 4 _ _)
+returns c = let z : c .before .before .before .args .h .found ≡ false = not-true _ (c .if1 .taken) in rw z (laid-none writeNumbers 4 _ _)
 
--- src/lib.rt:173:14
 extent-start-requires : tie.Need-extent-start-requires
 extent-start-requires c κs = search needs
 
--- src/lib.rt:173:36
 position-of-requires : tie.Need-position-of-requires
-position-of-requires c κs = let p = c  .before .before .before .before .before .pre .0 (not-false _ (c  .before .before .if1 .left)) in (p .0, p .1)
+position-of-requires c κs = let p = c .before .before .before .before .before .pre .0 (not-false _ (c .before .before .if1 .left)) in (p .0, p .1)
 
--- src/lib.rt:173:14
 add-at : tie.Need-add-at
-add-at c = let p = c  .before .before .before .before .before .before .pre .0 (not-false _ (c  .before .before .before .if1 .left)) in omega (arith, p .2, c .position-of .ensures, c  .before .extent-start .ensures)
+add-at c = let p = c .before .before .before .before .before .before .pre .0 (not-false _ (c .before .before .before .if1 .left)) in omega (arith, p .2, c .position-of .ensures, c .before .extent-start .ensures)
 
--- src/lib.rt:174:5
 put-write-requires : tie.Need-put-write-requires
 put-write-requires c κs = search needs
 
--- src/lib.rt:165:1
 same-length : tie.Need-same-length
 same-length c = search needs
 
--- src/lib.rt:165:1
 returns-2 : tie.Need-returns-2
-returns-2 c = let a = c  .before .before .before .before .before .before .before .before .before .before .args in let z : a .h .found ≡ true = not-false _ (c  .before .before .before .before .before .before .before .if1 .left) in rw (z, ← c  .before .before .before .before .position-of .ensures, ← c  .before .before .before .before .before .extent-start .ensures) (c  .before .before .put-write .ensures)
+returns-2 c = let a = c .before .before .before .before .before .before .before .before .before .before .args in let z : a .h .found ≡ true = not-false _ (c .before .before .before .before .before .before .before .if1 .left) in rw (z, ← c .before .before .before .before .position-of .ensures, ← c .before .before .before .before .before .extent-start .ensures) (c .before .before .put-write .ensures)
 
 pub put-in-place-spec : {M : Type 1} → statement M
 put-in-place-spec =

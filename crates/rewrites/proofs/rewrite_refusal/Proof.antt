@@ -18,7 +18,7 @@ holding-item-requires : tie.Need-holding-item-requires
 holding-item-requires c κs = search needs
 
 returns : tie.Need-returns
-returns c = let a = c  .before .before .before .before .before .before .args in rewrite-none (lentGround (a .v) (a .f) (now (a .list)) (now (a .shared)) (now (a .table))) (a .r) (found-none (c  .before .before .holding-item .result) _ (c  .before .before .holding-item .ensures) (not-true _ (c .if1 .taken)))
+returns c = let a = c .before .before .before .before .before .before .args in rewrite-none (lentGround (a .v) (a .f) (now (a .list)) (now (a .shared)) (now (a .table))) (a .r) (found-none (c .before .before .holding-item .result) _ (c .before .before .holding-item .ensures) (not-true _ (c .if1 .taken)))
 
 kind-requires : tie.Need-kind-requires
 kind-requires c κs = search needs
@@ -30,16 +30,16 @@ unless-requires : tie.Need-unless-requires
 unless-requires c κs = search needs
 
 returns-2 : tie.Need-returns-2
-returns-2 c = let a = c  .before .before .before .before .before .before .before .before .before .before .before .args in rewrite-anew (lentGround (a .v) (a .f) (now (a .list)) (now (a .shared)) (now (a .table))) (a .r) (heldIn (c  .before .before .before .before .before .before .before .holding-item .result)) _ _ _ (found-some (c  .before .before .before .before .before .before .before .holding-item .result) _ (c  .before .before .before .before .before .before .before .holding-item .ensures) (not-false _ (c  .before .before .before .before .before .if1 .left))) (c  .before .before .before .kind .ensures) (c  .before .before .both .ensures) (c  .before .unless .ensures) (ne-eqb _ _ (c .if2 .taken))
+returns-2 c = let a = c .before .before .before .before .before .before .before .before .before .before .before .args in rewrite-anew (lentGround (a .v) (a .f) (now (a .list)) (now (a .shared)) (now (a .table))) (a .r) (heldIn (c .before .before .before .before .before .before .before .holding-item .result)) _ _ _ (found-some (c .before .before .before .before .before .before .before .holding-item .result) _ (c .before .before .before .before .before .before .before .holding-item .ensures) (not-false _ (c .before .before .before .before .before .if1 .left))) (c .before .before .before .kind .ensures) (c .before .before .both .ensures) (c .before .unless .ensures) (ne-eqb _ _ (c .if2 .taken))
 
 in-place-refusal-requires : tie.Need-in-place-refusal-requires
-in-place-refusal-requires c κs = let a = c  .before .before .before .before .before .before .before .before .before .before .before .args in let p = c  .before .before .before .before .before .before .before .before .before .before .before .pre in let h = c  .before .before .before .before .before .before .before .holding-item .result in let s = holder-sound (lentGround (a .v) (a .f) (now (a .list)) (now (a .shared)) (now (a .table))) (a .r .sector) (heldIn h) (p .0) (found-some h _ (c  .before .before .before .before .before .before .before .holding-item .ensures) (not-false _ (c  .before .before .before .before .before .if1 .left))) in (s .0, s .1, p .0 .table)
+in-place-refusal-requires c κs = let a = c .before .before .before .before .before .before .before .before .before .before .before .args in let p = c .before .before .before .before .before .before .before .before .before .before .before .pre in let h = c .before .before .before .before .before .before .before .holding-item .result in let s = holder-sound (lentGround (a .v) (a .f) (now (a .list)) (now (a .shared)) (now (a .table))) (a .r .sector) (heldIn h) (p .0) (found-some h _ (c .before .before .before .before .before .before .before .holding-item .ensures) (not-false _ (c .before .before .before .before .before .if1 .left))) in (s .0, s .1, p .0 .table)
 
 first-requires : tie.Need-first-requires
 first-requires c κs = search needs
 
 returns-3 : tie.Need-returns-3
-returns-3 c = let a = c  .before .before .before .before .before .before .before .before .before .before .before .before .before .args in rewrite-in-place (lentGround (a .v) (a .f) (now (a .list)) (now (a .shared)) (now (a .table))) (a .r) (heldIn (c  .before .before .before .before .before .before .before .before .before .holding-item .result)) _ _ _ _ _ (found-some (c  .before .before .before .before .before .before .before .before .before .holding-item .result) _ (c  .before .before .before .before .before .before .before .before .before .holding-item .ensures) (not-false _ (c  .before .before .before .before .before .before .before .if1 .left))) (c  .before .before .before .before .before .kind .ensures) (c  .before .before .before .before .both .ensures) (c  .before .before .before .unless .ensures) (eq-eqb _ _ (c  .before .before .if2 .left)) (c .before .in-place-refusal .ensures ∙ ap (λ (fs : List Fields). inPlaceWhy (a .v .sector) (a .v .snapshot) fs (rows (now (a .table))) (a .r) (heldIn (c .before .before .before .before .before .before .before .before .before .holding-item .result))) (sym (held-items (items (now (a .list))) (now (a .shared)) (c .before .before .before .before .before .before .before .before .before .before .before .before .before .pre .1)))) (c .first .ensures)
+returns-3 c = let a = c .before .before .before .before .before .before .before .before .before .before .before .before .before .args in rewrite-in-place (lentGround (a .v) (a .f) (now (a .list)) (now (a .shared)) (now (a .table))) (a .r) (heldIn (c .before .before .before .before .before .before .before .before .before .holding-item .result)) _ _ _ _ _ (found-some (c .before .before .before .before .before .before .before .before .before .holding-item .result) _ (c .before .before .before .before .before .before .before .before .before .holding-item .ensures) (not-false _ (c .before .before .before .before .before .before .before .if1 .left))) (c .before .before .before .before .before .kind .ensures) (c .before .before .before .before .both .ensures) (c .before .before .before .unless .ensures) (eq-eqb _ _ (c .before .before .if2 .left)) (c .before .in-place-refusal .ensures ∙ ap (λ (fs : List Fields). inPlaceWhy (a .v .sector) (a .v .snapshot) fs (rows (now (a .table))) (a .r) (heldIn (c .before .before .before .before .before .before .before .before .before .holding-item .result))) (sym (held-items (items (now (a .list))) (now (a .shared)) (c .before .before .before .before .before .before .before .before .before .before .before .before .before .pre .1)))) (c .first .ensures)
 
 pub rewrite-refusal-spec : {M : Type 1} → statement M
 rewrite-refusal-spec =
