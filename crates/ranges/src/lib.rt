@@ -160,7 +160,7 @@ fn finish_change(
     requires { ⌜ Accepted v f c p n (now list) (now shared) (now table) ⌝ }
     ensures { λ r. ⌜ Met (f .number) (changed (lentGround v f (now (list .entry)) (now (shared .entry)) (now (table .entry))) (changeOf c (f .size)) pieceLimit (now (places .entry)) (roomsOf (outs (now (edits .entry)) (now (shares .entry)) (now (unrefs .entry)) (now (releases .entry)) (now (adds .entry)) (now (writes .entry))))) r (outs (now (edits .entry)) (now (shares .entry)) (now (unrefs .entry)) (now (releases .entry)) (now (adds .entry)) (now (writes .entry))) (outs (now (edits .exit)) (now (shares .exit)) (now (unrefs .exit)) (now (releases .exit)) (now (adds .exit)) (now (writes .exit))) ⌝ }
 {
-    let why = finish_refusal(
+    let short = finish_refusal(
         n,
         table,
         places,
@@ -171,8 +171,8 @@ fn finish_change(
         adds.len(),
         writes.len(),
     );
-    if why != 0 {
-        return Answer::Refused(why);
+    if short != 0 {
+        return Answer::Refused(short);
     }
     let numbers = n.numbers;
     let x = place_at(places, 0);

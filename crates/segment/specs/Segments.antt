@@ -6,29 +6,14 @@ use Prim.Native.Nat.{ℕ, suc, _+_, _^_, _≤_, _<_}
 use lib.Dec.{leb, ltb}
 use lib.ListN.{length, getD, take, drop}
 use Rattle.records.specs.Stages.{every}
-use Rattle.item.specs.Items.{Fields, items, end}
+use Rattle.item.specs.Items.{Fields, items, end, regularItem}
 use Rattle.cut.specs.Pieces.{Piece, replaced, cutPieces}
 use Rattle.cut.specs.Joins.{joinAround}
 use Rattle.segment.specs.declared.Segment.{Segment}
 
 -- what stands for an item past a list's end
 abbrev pub nothing : Fields
-nothing =
-    record {
-      file = 0;
-      keyType = 0;
-      key = 0;
-      generation = 0;
-      ram = 0;
-      compression = 0;
-      encryption = 0;
-      other = 0;
-      kind = 0;
-      extentStart = 0;
-      extentLength = 0;
-      position = 0;
-      length = 0;
-    }
+nothing = regularItem 0 0 0 0 0
 
 -- record n of a list
 abbrev pub itemAt : List ℕ → ℕ → Fields
