@@ -6,7 +6,7 @@ use records::sum_past;
 ghost use mathlib.Core.Path.{_≡_};
 ghost use mathlib.Core.Bool.{true};
 ghost use mathlib.Core.List.{[], _∷_, _++_};
-ghost use Prim.Native.Nat.{_+_, _-_, _*_, _≤_, _<_, _^_, min, max};
+ghost use Prim.Native.Nat.{_+_, _-_, _*_, _≤_, _<_, _^_, min};
 ghost use lib.Dec.{ltb};
 ghost use lib.ListN.{length, set, take, drop};
 ghost use Rattle.records.specs.Select.{only};
@@ -58,12 +58,6 @@ fn least(a: u64, b: u64) -> u64
     if a < b { a } else { b }
 }
 
-fn most(a: u64, b: u64) -> u64
-    ensures { λ r. ⌜ r ≡ max a b ⌝ }
-{
-    if a < b { b } else { a }
-}
-
 // What of an item lies before lo.
 pub fn front_of(lo: u64, item: Item) -> Item
     requires { ⌜ (fields item .key ≤ lo) × (end (fields item) < 2 ^ 64) ⌝ }
@@ -80,7 +74,7 @@ pub fn back_of(hi: u64, item: Item) -> Item
     ensures { λ r. ⌜ fields r ≡ back hi (fields item) ⌝ }
 {
     let end = item.key + item.length();
-    let key = most(item.key, hi);
+    let key = records::larger(item.key, hi);
     let start = item.position();
     let position = start + (key - item.key);
     item.windowed(item.file, key, position, end - key)

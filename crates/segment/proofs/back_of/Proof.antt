@@ -9,8 +9,8 @@ length-requires c κs = search needs
 add-end : tie.Need-add-end
 add-end c = search needs
 
-most-requires : tie.Need-most-requires
-most-requires c κs = search needs
+larger-requires : tie.Need-larger-requires
+larger-requires c κs = search needs
 
 position-requires : tie.Need-position-requires
 position-requires c κs = search needs
@@ -28,7 +28,7 @@ windowed-requires : tie.Need-windowed-requires
 windowed-requires c κs = search needs
 
 returns : tie.Need-returns
-returns c = back-made _ _ _ _ _ _ (c .before .before .position .ensures) (c .before .before .before .before .before .length .ensures) (c .before .before .before .most .ensures) (c .windowed .ensures)
+returns c = back-made _ _ _ _ _ _ (c .before .before .position .ensures) (c .before .before .before .before .before .length .ensures) (c .before .before .before .larger .ensures) (c .windowed .ensures)
 
 pub back-of-spec : {M : Type 1} → statement M
 back-of-spec =
@@ -36,7 +36,7 @@ back-of-spec =
     (tie.spec
     length-requires
     add-end
-    most-requires
+    larger-requires
     position-requires
     sub-position
     add-position
