@@ -22,9 +22,10 @@ use Rattle.request.specs.declared.Numbers.{Numbers}
 use Rattle.cut.specs.Cuts.{front, back, cut, touched, covered, split}
 use Rattle.cut.specs.Pieces.{Piece, made, kept, itemsOf, cutPieces, insert, insertAll, countedBytes}
 use Rattle.cut.specs.Joins.{joinable, joinNext, past, joinAround, joinAll}
-use Rattle.cut.specs.Refs.{Ref, refOf, sameRef}
+use Rattle.cut.specs.Refs.{Ref, refOf}
 use Rattle.cut.specs.Edits.{Edit, puts, delete, below, edits}
-use Rattle.refs.specs.Compared.{among, refBefore, insertRef, sorted, without, minus, refsAmong, comparedUnrefs}
+use Rattle.refs.proofs.Compared.{compared-most}
+use Rattle.refs.specs.Compared.{among, comparedUnrefs}
 use Rattle.refs.specs.Drops.{Held, dropsOf, lines, released, releases, unrefs}
 use Rattle.refs.proofs.Drops.{drops-number}
 use Rattle.plan.specs.Plans.{Write, numbers}
@@ -285,40 +286,6 @@ joined-most generation [] ps = omega arith
 joined-most generation (s ∷ ss) ps = omega (arith, joined-most generation ss (joinAround generation s ps), around-most generation s ps)
 
 -- ---- of the references
-
-without-most : (r : Ref) (rs : List Ref) → length (without r rs) ≤ length rs
-unfolding without
-without-most r [] = omega arith
-without-most r (q ∷ qs) = go (sameRef q r) (without-most r qs)
-  where
-    go : (b : Bool) → length (without r qs) ≤ length qs → length (cond b qs (q ∷ without r qs)) ≤ suc (length qs)
-    go true h = omega arith
-    go false h = omega arith
-
-minus-most : (rs qs : List Ref) → length (minus rs qs) ≤ length rs
-unfolding minus
-minus-most rs [] = omega arith
-minus-most rs (q ∷ qs) = omega (arith, minus-most (without q rs) qs, without-most q rs)
-
-insertRef-length : (r : Ref) (rs : List Ref) → length (insertRef r rs) ≡ suc (length rs)
-unfolding insertRef
-insertRef-length r [] = refl
-insertRef-length r (q ∷ qs) = go (refBefore q r) (insertRef-length r qs)
-  where
-    go : (b : Bool) → length (insertRef r qs) ≡ suc (length qs) → length (cond b (q ∷ insertRef r qs) (r ∷ q ∷ qs)) ≡ suc (suc (length qs))
-    go true h = ap suc h
-    go false h = refl
-
-sorted-length : (rs : List Ref) → length (sorted rs) ≡ length rs
-unfolding sorted
-sorted-length [] = refl
-sorted-length (r ∷ rs) = insertRef-length r (sorted rs) ∙ ap suc (sorted-length rs)
-
--- what is compared on one side only
-pub compared-most : (extents : List ℕ) (fs gs : List Fields) → length (minus (refsAmong extents fs) (refsAmong extents gs)) ≤ length fs
-compared-most extents fs gs =
-    let ks : List Fields = keep (among extents) fs in
-    omega (arith, minus-most (refsAmong extents fs) (refsAmong extents gs), sorted-length (map refOf ks), length-map ks refOf, keep-most (among extents) fs)
 
 -- where each row gives at most the lines of its extent, a drop is in one line at most
 module _ (ds : List Held) (f : Row → List Ref) (few : (row : Row) → length (f row) ≤ length (lines (row .start) ds)) where

@@ -1,5 +1,5 @@
 -- `change_range` (fallocate.rs): "`change_range` then cuts, rewrites, joins, drops, takes places, counts."
-use mathlib.Core.Bool.{Bool, cond, _&&_, not}
+use mathlib.Core.Bool.{cond, _&&_, not}
 use mathlib.Core.List.{List, [], _∷_, _++_, map, flatMap}
 use Prim.Native.Nat.{ℕ, _+_, _-_, _^_}
 use lib.Dec.{eqb}
@@ -17,7 +17,7 @@ use Rattle.cut.specs.Refs.{Ref, refOf}
 use Rattle.cut.specs.Edits.{edits}
 use Rattle.refs.specs.Compared.{among, comparedShares, comparedUnrefs}
 use Rattle.refs.specs.Drops.{Held, dropsRefusal, releases, unrefs}
-use Rattle.plan.specs.Plans.{Plan, Add, Write, numbers, refusedOr}
+use Rattle.plan.specs.Plans.{Plan, Write, numbers, refusedOr}
 use Rattle.plan.specs.Places.{Wanted, placed, placesSound}
 use Rattle.plan.specs.Outputs.{Rooms, roomFor}
 use Rattle.change.specs.Preallocs.{Span, preallocPieces}

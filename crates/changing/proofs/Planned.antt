@@ -10,11 +10,10 @@ use lib.Dec.{eqb, leb, ltb}
 use lib.ListN.{length, take, drop, take-append-drop, length-take, length-drop}
 use lib.Seq.{drop-drop}
 use borrow.Author.Tests.{eqb-true, leb-true}
-use Rattle.records.specs.Select.{only, keep, count}
+use Rattle.records.specs.Select.{only, keep}
 use Rattle.records.specs.Stages.{every, stage}
 use Rattle.records.proofs.Tests.{both-left, both-right}
 use Rattle.records.proofs.Lists.{stage-none}
-use Rattle.records.proofs.Counts.{count-length}
 use Rattle.item.specs.Items.{Fields, fields, items, end}
 use Rattle.table.specs.declared.Row.{Row}
 use Rattle.table.proofs.Laws.{window-says}
@@ -22,12 +21,12 @@ use Rattle.lists.proofs.Laws.{well-kept}
 use Rattle.cut.specs.Mappings.{named}
 use Rattle.cut.specs.Cuts.{split}
 use Rattle.cut.specs.Pieces.{Piece, made, kept, itemsOf, replaced}
-use Rattle.cut.specs.Refs.{Ref, refOf, refPasses}
+use Rattle.cut.specs.Refs.{Ref, refOf}
 use Rattle.segment.specs.declared.Segment.{Segment}
 use Rattle.segment.proofs.Segments.{kept-runs}
 use Rattle.refs.specs.Compared.{among, minus, refsAmong, comparedShares, comparedUnrefs}
 use Rattle.refs.specs.Drops.{Held, held, releases, unrefs}
-use Rattle.refs.proofs.Compared.{minus-most}
+use Rattle.refs.proofs.Compared.{compared-most}
 use Rattle.refs.proofs.Drops.{held-items}
 use Rattle.request.specs.declared.Volume.{Volume}
 use Rattle.request.specs.declared.File.{File}
@@ -37,7 +36,6 @@ use Rattle.drops.proofs.Cuts.{drops-among}
 use Rattle.edits.specs.Splits.{elsewhere}
 use Rattle.edits.proofs.Shares.{two-extents}
 use Rattle.refs.proofs.Among.{nonzero, among-nonzero}
-use Rattle.refs.proofs.Compared.{refs-count}
 use Rattle.compared.proofs.Laws.{refs-nonzero}
 use Rattle.compared.proofs.Nearest.{named-start}
 use Rattle.compared.proofs.Times.{minus-common}
@@ -110,22 +108,6 @@ items-parts fs segment from to =
     same p e (f ∷ l) = ap₂ (λ (a : Fields) (k : List Fields). a ∷ k) (e f) (same p e l)
 
 -- ---- what is compared is no more than the items
-
-count-all : {A : Type 0} (l : List A) → count (λ (a : A). true) l ≡ length l
-unfolding count
-count-all [] = refl
-count-all (a ∷ l) = omega (arith, count-all l)
-
-pub compared-most : (extents : List ℕ) (fs gs : List Fields) → length (minus (refsAmong extents fs) (refsAmong extents gs)) ≤ length fs
-compared-most extents fs gs =
-    let rs : List Ref = refsAmong extents fs in
-    omega (
-      arith,
-      count-all (minus rs (refsAmong extents gs)),
-      minus-most (λ q. true) rs (refsAmong extents gs),
-      refs-count (λ q. true) extents fs,
-      count-length (λ (f : Fields). among extents f && refPasses (λ q. true) f) fs,
-    )
 
 -- by a segment: what is shared, and what is no longer named
 pub shares-most : (k : Cut) (fs segment : List Fields) (s : Segment) → length (comparedOf k (middle fs s) segment) ≤ length segment

@@ -11,7 +11,7 @@ use Rattle.item.specs.Items.{Fields, items, end}
 use Rattle.cut.specs.Pieces.{Piece, insert, insertAll, cutPieces}
 use Rattle.cut.specs.Joins.{joinAround, joinAll}
 use Rattle.segment.specs.declared.Segment.{Segment}
-use Rattle.segment.specs.Segments.{Good, Around, Cutting, Inserted, Joining, itemAt, bounded, pieces}
+use Rattle.segment.specs.Segments.{Good, Around, Cutting, Inserted, Joining, itemAt}
 use Rattle.segment.proofs.Inserting.{inserted-pieces, inserted-good, inserted-around, inserted-first, inserted-lower}
 use Rattle.segment.proofs.Joining.{joining-around}
 use Rattle.request.specs.declared.Volume.{Volume}

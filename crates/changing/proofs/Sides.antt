@@ -2,21 +2,19 @@
 use mathlib.Core.Path.{_≡_, refl, ap, ap₂, _∙_, sym}
 use mathlib.Core.Bool.{Bool, true, false, cond, _&&_, not}
 use mathlib.Core.List.{List, [], _∷_, _++_, map, flatMap, append-nil, append-assoc}
-use mathlib.Core.Option.{Option, none, some}
+use mathlib.Core.Option.{none, some}
 use Prim.Native.Nat.{ℕ, _≤_}
 use native.Mathlib.Omega.{arith}
 use lib.Dec.{eqb}
 use lib.ListN.{length, length-append}
 use Rattle.records.specs.Select.{only, keep, any}
 use Rattle.records.proofs.Picks.{keep-append, only-few}
-use Rattle.item.specs.Items.{Fields, fields, regularItem, hole}
 use Rattle.refs.specs.Drops.{Held}
-use Rattle.plan.specs.Plans.{Add, Write}
 use Rattle.plan.specs.Places.{Wanted, placed}
 use Rattle.change.specs.declared.Rewrite.{Rewrite}
 use Rattle.change.specs.declared.RangeChange.{RangeChange}
-use Rattle.change.specs.Rewrites.{Ground, newGeneration, whenHeld, preallocated, inPlace, eachInPlace, rewrittenAnew}
-use Rattle.change.specs.Changes.{Change, changeOf, newItems, writesAnew, wanted, extentsInPlace}
+use Rattle.change.specs.Rewrites.{Ground, whenHeld, preallocated, inPlace, eachInPlace, rewrittenAnew}
+use Rattle.change.specs.Changes.{Change, changeOf, newItems, writesAnew, wanted}
 use Rattle.rewrites.specs.declared.Holder.{Holder}
 use Rattle.rewrites.specs.Raw.{heldIn, holderIn}
 use Rattle.changing.specs.declared.Parts.{Parts}

@@ -12,7 +12,7 @@ use Rattle.plan.specs.Plans.{Plan, numbers}
 use Rattle.plan.specs.Outputs.{Outs, editBytes, refNumbers, addNumbers, writeNumbers}
 use Rattle.lines.specs.Lines.{lay, Laid}
 use Rattle.change.specs.declared.RangeChange.{RangeChange}
-use Rattle.change.specs.Changes.{Change, changeOf, planOf}
+use Rattle.change.specs.Changes.{changeOf, planOf}
 use Rattle.change.specs.Preallocs.{pieceLimit}
 use Rattle.change.proofs.Fair.{Fair}
 use Rattle.rewrites.specs.Raw.{lentGround}

@@ -1,34 +1,32 @@
 -- From the stages of a punch to its answer. Assumes nothing.
-use mathlib.Core.Path.{_≡_, refl, ap, _∙_, sym}
-use mathlib.Core.Bool.{Bool, true, not}
-use mathlib.Core.List.{List, [], _∷_}
-use mathlib.Core.Option.{Option, none, some}
-use Prim.Native.Nat.{ℕ, zero, suc, _+_, _<_, _≤_, _^_}
+use mathlib.Core.Path.{_≡_, refl, _∙_, sym}
+use mathlib.Core.Bool.{Bool, not}
+use mathlib.Core.List.{List}
+use mathlib.Core.Option.{none, some}
+use Prim.Native.Nat.{ℕ, zero, suc, _+_, _<_, _^_}
 use native.Mathlib.Omega.{arith}
 use lib.Dec.{eqb, leb, ltb}
 use lib.ListN.{length}
 use borrow.Author.Tests.{eqb-true, leb-true, ltb-true}
 use Rattle.records.specs.Stages.{unless, first, firstOf, stage, every}
 use Rattle.records.proofs.Tests.{both-left, first-assoc, first-last, first-zero, firstOf-zero, unless-zero, ltb-suc}
-use Rattle.item.specs.Items.{Fields, items}
+use Rattle.item.specs.Items.{items}
 use Rattle.table.specs.Rows.{rows}
 use Rattle.lists.specs.Lists.{recordRefusal}
 use Rattle.request.specs.declared.Volume.{Volume}
 use Rattle.request.specs.declared.File.{File}
 use Rattle.request.specs.declared.Range.{Range}
-use Rattle.request.specs.declared.Answer.the-variants.{Nothing, Refused}
-use Rattle.request.specs.Lent.{lent, lentRefusal, listBroken, tableBroken}
-use Rattle.request.specs.Answers.{Outcome, plan, nothing, refused}
+use Rattle.request.specs.declared.Answer.the-variants.{Nothing}
+use Rattle.request.specs.Lent.{lent, listBroken, tableBroken}
+use Rattle.request.specs.Answers.{Outcome, nothing, refused}
 use Rattle.request.proofs.Stages.{Accepted, accepted}
 use Rattle.plan.specs.Plans.{Plan, refusedOr, orNothing}
-use Rattle.plan.specs.Outputs.{Rooms, Outs, roomsOf, Met}
+use Rattle.plan.specs.Outputs.{Rooms, Outs, Met}
 use Rattle.change.specs.declared.RangeChange.{RangeChange}
 use Rattle.change.specs.Preallocs.{pieceLimit}
 use Rattle.change.specs.Rewrites.{groundOf}
 use Rattle.change.specs.Changes.{Change, changeOf, changed}
-use Rattle.change.proofs.Fair.{Fair}
 use Rattle.ranges.specs.Raw.{Asked}
-use Rattle.ranges.proofs.Finish.{met-refused}
 use Rattle.punch.specs.Punch.{planPunch, rangeRefusal, punch, punchLent}
 use Rattle.punch.specs.Raw.{rangeLent}
 use Rattle.punch.proofs.Planned.{records-ranged, ground-items, ground-sound}

@@ -2,7 +2,7 @@
 use mathlib.Core.Path.{_≡_, refl, ap, _∙_, sym}
 use mathlib.Core.Bool.{Bool, true, false, cond, _&&_, not}
 use mathlib.Core.List.{List, [], _∷_}
-use mathlib.Core.Option.{Option, none, some}
+use mathlib.Core.Option.{none, some}
 use Prim.Native.Nat.{ℕ, _+_, _-_, _≤_, _<_, _^_}
 use native.Mathlib.Omega.{arith}
 use lib.Dec.{eqb, ltb}

@@ -22,7 +22,6 @@ use Rattle.plan.specs.Plans.{Plan, Write, refusedOr, orNothing}
 use Rattle.plan.specs.Outputs.{Rooms}
 use Rattle.change.specs.Rounding.{roundDown, roundUp}
 use Rattle.change.specs.Preallocs.{pieceLimit}
-use Rattle.change.specs.declared.Rewrite.{Rewrite}
 use Rattle.change.specs.Rewrites.{groundOf}
 use Rattle.change.specs.Changes.{Change, changed}
 

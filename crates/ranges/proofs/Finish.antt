@@ -9,20 +9,19 @@ use lib.Dec.{eqb, leb}
 use lib.ListN.{length, getD, drop, replicate}
 use borrow.Author.Tests.{leb-true, eqb-true, eqb-false, eq-eqb, ne-eqb, not-true}
 use Rattle.records.specs.Stages.{unless, first, firstOf, every, stage}
-use Rattle.records.specs.Select.{only}
-use Rattle.records.proofs.Tests.{both, both-left, both-right, first-zero, firstOf-zero, unless-zero, first-stop, first-go, first-last}
+use Rattle.records.proofs.Tests.{both, both-left, both-right, first-zero, firstOf-zero, unless-zero, first-last}
 use Rattle.item.specs.Items.{items}
 use Rattle.table.specs.declared.Row.{Row}
 use Rattle.table.specs.Rows.{rows}
 use Rattle.request.specs.declared.Volume.{Volume}
 use Rattle.request.specs.declared.File.{File}
 use Rattle.request.specs.declared.Numbers.{Numbers}
-use Rattle.request.specs.declared.Answer.the-variants.{Planned, Nothing, Refused}
+use Rattle.request.specs.declared.Answer.the-variants.{Planned, Refused}
 use Rattle.request.specs.Answers.{Outcome, plan, nothing, refused}
 use Rattle.refs.specs.Drops.{held}
 use Rattle.plan.specs.Plans.{Plan, numbers, refusedOr}
 use Rattle.plan.specs.Places.{Wanted, placesSound}
-use Rattle.plan.specs.Outputs.{Rooms, Outs, roomsOf, roomFor, laid, left, Met, editBytes, refNumbers, addNumbers, writeNumbers}
+use Rattle.plan.specs.Outputs.{Rooms, Outs, roomsOf, roomFor, Met, editBytes, refNumbers, addNumbers, writeNumbers}
 use Rattle.plan.proofs.Places.{places-count}
 use Rattle.plan.proofs.Outputs.{edit-length}
 use Rattle.lines.proofs.Laws.{lay-put}

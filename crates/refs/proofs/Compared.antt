@@ -5,11 +5,12 @@ use mathlib.Core.List.{List, [], _∷_, map}
 use Prim.Native.Nat.{ℕ, _+_, _≤_}
 use native.Mathlib.Omega.{arith}
 use lib.Dec.{eqb}
+use lib.ListN.{length}
 use borrow.Author.Tests.{eqb-true, eq-eqb}
 use Rattle.records.specs.Select.{keep, any, count}
 use Rattle.records.specs.Stages.{every}
 use Rattle.records.proofs.Tests.{both, both-left, both-right, same}
-use Rattle.records.proofs.Counts.{count-map, count-keep, count-same, count-never, none-fails}
+use Rattle.records.proofs.Counts.{count-map, count-keep, count-same, count-never, none-fails, count-length}
 use Rattle.item.specs.Items.{Fields, reference}
 use Rattle.cut.specs.Mappings.{named}
 use Rattle.cut.specs.Refs.{Ref, refOf, sameRef, refPasses}
@@ -198,3 +199,21 @@ module _ (extents : List ℕ) (before after : List Fields) where
 
   pub unrefs-other : (s : ℕ) → any (eqb s) extents ≡ false → count (λ (q : Ref). eqb (q .start) s) (comparedUnrefs extents before after) ≡ 0
   unrefs-other = left-other extents before (refsAmong extents after)
+
+-- ---- how many: what is compared is no more than the items
+
+count-all : {A : Type 0} (l : List A) → count (λ (a : A). true) l ≡ length l
+unfolding count
+count-all [] = refl
+count-all (a ∷ l) = omega (arith, count-all l)
+
+pub compared-most : (extents : List ℕ) (fs gs : List Fields) → length (minus (refsAmong extents fs) (refsAmong extents gs)) ≤ length fs
+compared-most extents fs gs =
+    let rs : List Ref = refsAmong extents fs in
+    omega (
+      arith,
+      count-all (minus rs (refsAmong extents gs)),
+      minus-most (λ q. true) rs (refsAmong extents gs),
+      refs-count (λ q. true) extents fs,
+      count-length (λ (f : Fields). among extents f && refPasses (λ q. true) f) fs,
+    )

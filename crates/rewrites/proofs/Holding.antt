@@ -1,17 +1,12 @@
 -- A loop that looks for the item that holds an offset. Assumes nothing.
-use mathlib.Core.Path.{_≡_, refl, ap, _∙_, sym}
+use mathlib.Core.Path.{_≡_, refl, _∙_, sym}
 use mathlib.Core.Bool.{Bool, true, false, cond, _&&_}
-use mathlib.Core.List.{List, [], _∷_}
+use mathlib.Core.List.{List}
 use mathlib.Core.Option.{Option, none, some}
-use Prim.Native.Nat.{ℕ, _+_, _*_, _/_, _<_, _≤_}
-use native.Mathlib.Omega.{arith}
-use native.Mathlib.Numerals.{add-one}
+use Prim.Native.Nat.{ℕ, _+_, _*_, _<_, _≤_}
 use lib.Dec.{eqb}
 use lib.ListN.{length, getD, drop}
-use lib.Seq.{drop-cons}
-use Rattle.records.proofs.Loops.{rest, rest-cons, rest-nil}
-use Rattle.item.specs.Items.{Fields, fields, decode, items}
-use Rattle.item.proofs.Laws.{rest-items}
+use Rattle.item.specs.Items.{Fields, fields, decode}
 use Rattle.cut.specs.Mappings.{holds}
 use Rattle.refs.specs.Drops.{Held}
 use Rattle.refs.proofs.Helds.{heldRest, held-cons, held-nil}

@@ -1,7 +1,7 @@
 -- What refuses a sector that is written in place, from what the tests of the code say. Assumes nothing.
-use mathlib.Core.Path.{_≡_, refl, ap, _∙_, sym}
+use mathlib.Core.Path.{_≡_, refl, _∙_, sym}
 use mathlib.Core.Bool.{Bool, true, false, _&&_, _||_, not}
-use mathlib.Core.List.{List, [], _∷_}
+use mathlib.Core.List.{List}
 use mathlib.Core.Option.{none, some}
 use Prim.Native.Nat.{ℕ, _+_, _-_, _<_, _≤_, _^_}
 use native.Mathlib.Omega.{arith}
@@ -12,9 +12,8 @@ use Rattle.records.proofs.Tests.{both-left, both-right, implied, first-last}
 use Rattle.records.proofs.Lists.{every-mem, every-mapped}
 use Rattle.item.specs.Items.{Fields, ranged, hole, end}
 use Rattle.table.specs.declared.Row.{Row}
-use Rattle.table.specs.declared.Found.{Found}
 use Rattle.table.specs.declared.Found.the-variants.{At, Missing}
-use Rattle.table.specs.Rows.{find, withRow}
+use Rattle.table.specs.Rows.{find}
 use Rattle.table.specs.Windows.{windowInside}
 use Rattle.table.proofs.Laws.{with-none}
 use Rattle.lists.specs.Lists.{itemSound, rangeSound}
@@ -23,7 +22,7 @@ use Rattle.cut.specs.Mappings.{named, holds}
 use Rattle.cut.specs.Refs.{naming}
 use Rattle.refs.specs.Drops.{Held}
 use Rattle.change.specs.declared.Rewrite.{Rewrite}
-use Rattle.change.specs.Rewrites.{Ground, itemsHeld, holderOf, positionOf, inPlaceWhy, inPlaceRefusal, rewriteRefusal}
+use Rattle.change.specs.Rewrites.{Ground, holderOf, positionOf, inPlaceWhy, inPlaceRefusal, rewriteRefusal}
 use Rattle.change.proofs.Fair.{Sound}
 use Rattle.change.proofs.Rewrites.{holder-says}
 

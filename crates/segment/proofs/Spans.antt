@@ -1,7 +1,7 @@
 -- A part of a list that is lent, from one record to another. Assumes nothing.
 use mathlib.Core.Path.{_≡_, refl, ap, _∙_, sym}
-use mathlib.Core.List.{List, [], _∷_}
-use Prim.Native.Nat.{ℕ, zero, suc, _+_, _-_, _*_, _/_, _<_, _≤_}
+use mathlib.Core.List.{List, _∷_}
+use Prim.Native.Nat.{ℕ, zero, suc, _+_, _-_, _*_, _/_, _≤_}
 use native.Mathlib.Omega.{arith}
 use native.Mathlib.Nat.{add-comm, suc-mul, sub-zero, le-div-iff-mul-le, mul-div-cancel}
 use lib.ListN.{length, take, drop, length-take, length-drop}

@@ -1,6 +1,6 @@
 use Rattle.changing.proofs.Spans.{middle-most}
 use Rattle.changing.specs.Sides.{middle}
-use Rattle.change.proofs.Drafts.{compared-most}
+use Rattle.refs.proofs.Compared.{compared-most}
 use Rattle.lines.proofs.Laws.{laid-append}
 use Rattle.segment.specs.Segments.{segmentOf}
 use Rattle.plan.specs.Outputs.{refNumbers}
