@@ -1,0 +1,16 @@
+#!/bin/sh
+# build.sh SOURCES [LIB]: builds the oracle from the port's source (the folder with fallocate.rs, clone.rs, write.rs and
+# cow_write.rs of rust-fs-btrfs) into oracle/, once without and once with overflow checks. LIB, if given, is the folder of a static library
+# libffi.a that has `zag_punch` (src/ours.rs says how it is called): then the comparisons are built too.
+set -eu
+sources=$(cd "$1" && pwd)
+lib=${2:+$(cd "$2" && pwd)}
+cd "$(dirname "$0")"
+mkdir -p sources
+for f in fallocate clone write; do cp "$sources/$f.rs" sources/; done
+awk '/^pub\(crate\) fn regular_extent_item\(/ {on=1} on {print} on && /^}/ {exit}' "$sources/cow_write.rs" > sources/regular_extent_item.rs
+ours=${lib:+--cfg ours -L $lib -l static=ffi}
+for checks in off on; do
+    # shellcheck disable=SC2086
+    rustc --edition 2021 -O -C overflow-checks=$checks -C debug-assertions=$checks $ours -o "oracle-$checks" src/main.rs
+done

@@ -1,0 +1,118 @@
+use crate::gen::{self, Rng};
+use crate::oracle::{self, Outcome, Plan, Request};
+use crate::{ours, text};
+use std::collections::BTreeMap;
+
+fn rooms_for(p: &Plan) -> [usize; 6] {
+    [p.edits.len() * 71, p.shares.len() * 2, p.unrefs.len() * 2, p.releases.len() * 2, p.adds.len() * 3, p.writes.len() * 4]
+}
+pub fn ample(r: &Request) -> [usize; 6] { let n = 2 * r.facts.files[0].items.len() + 16; [71 * n, 2 * n, 2 * n, 2 * n, 30, 40] }
+/// A difference of the two, if there is one. A Rust that panics on a sum is let pass for 14 and 17 (17's sums are ours).
+pub fn differs(r: &Request) -> Option<(Outcome, Outcome, String)> {
+    let (theirs, _) = oracle::run(r);
+    let (us, bad) = ours::run(r, ample(r));
+    if let Some(b) = bad { return Some((theirs, us, b)); }
+    if let Outcome::Panicked(m) = &theirs {
+        if m.contains("overflow") && matches!(us, Outcome::Refused(14 | 17)) { return None; }
+    }
+    if theirs != us { return Some((theirs, us, "outcome".into())); }
+    None
+}
+fn shrink(r: Request) -> Request {
+    let mut r = r;
+    let mut again = true;
+    while again {
+        again = false;
+        let mut tries: Vec<Request> = Vec::new();
+        for i in 0..r.facts.files[0].items.len() { let mut t = r.clone(); t.facts.files[0].items.remove(i); t.facts.files[0].shared.remove(i); tries.push(t); }
+        for i in 0..r.facts.rows.len() { let mut t = r.clone(); t.facts.rows.remove(i); tries.push(t); }
+        for i in 0..r.facts.places.as_ref().unwrap().len() { let mut t = r.clone(); t.facts.places.as_mut().unwrap().remove(i); tries.push(t); }
+        for i in 0..r.facts.files[0].items.len() {
+            for at in [0usize, 8, 16, 37] {
+                let w = if at == 16 { 1 } else { 8 };
+                let mut t = r.clone();
+                if t.facts.files[0].items[i].1[at..at + w].iter().any(|b| *b != 0) { t.facts.files[0].items[i].1[at..at + w].fill(0); tries.push(t); }
+            }
+            if r.facts.files[0].shared[i] != 0 { let mut t = r.clone(); t.facts.files[0].shared[i] = 0; tries.push(t); }
+        }
+        for i in 0..r.facts.rows.len() { for c in [2, 3, 4] { if r.facts.rows[i][c] != 0 { let mut t = r.clone(); t.facts.rows[i][c] = 0; tries.push(t); } } }
+        if r.facts.snapshot != 0 { let mut t = r.clone(); t.facts.snapshot = 0; tries.push(t); }
+        if r.facts.generation != 7 { let mut t = r.clone(); t.facts.generation = 7; tries.push(t); }
+        for t in tries { if differs(&t).is_some() { r = t; again = true; break; } }
+    }
+    r
+}
+fn shape(p: &Plan, r: &Request, n: &mut BTreeMap<String, u64>) {
+    let mut add = |s: &str| *n.entry(s.to_string()).or_default() += 1;
+    let inplace = p.writes.len() - p.adds.len();
+    add(&format!("plan: {} in place, {} new", inplace, p.adds.len()));
+    if p.edits.is_empty() { add("plan: without edits"); }
+    if !p.shares.is_empty() { add("plan: with shares"); }
+    if p.shares.windows(2).any(|w| w[0] == w[1]) { add("plan: two equal shares"); }
+    if !p.unrefs.is_empty() { add("plan: with unrefs"); }
+    if p.unrefs.windows(2).any(|w| w[0] == w[1]) { add("plan: two equal unrefs"); }
+    if p.unrefs.windows(2).any(|w| w[0] > w[1]) { add("plan: unrefs not rising (compared, then drops)"); }
+    if !p.releases.is_empty() { add("plan: with releases"); }
+    if !p.releases.is_empty() && !p.unrefs.is_empty() { add("plan: releases and unrefs"); }
+    if p.shares.iter().chain(&p.unrefs).chain(&p.releases).any(|x| x[1] > 1 << 63) { add("plan: wrapped reference offset in a line"); }
+    if inplace > 0 {
+        let sector = r.sector;
+        let joined = p.edits.iter().filter(|(_, d)| d.as_ref().is_some_and(|d| d[20] == 1 && crate::superblock::le64(d, 0) == r.facts.generation.wrapping_add(1) && crate::superblock::le64(d, 45) > sector)).count();
+        if joined > 0 {
+            add(&format!("plan: in place, {joined} joined item(s)"));
+            // a joined item that reaches over two or more records that stood before the cut, on its left
+            let keys: Vec<u64> = r.facts.files[0].items.iter().map(|x| x.0).collect();
+            let firstw = p.writes.iter().map(|w| w[0]).min().unwrap();
+            let lastw = p.writes.iter().map(|w| w[0]).max().unwrap();
+            for (k, d) in &p.edits { if let Some(d) = d { if d[20] == 1 && crate::superblock::le64(d, 0) == r.facts.generation.wrapping_add(1) && crate::superblock::le64(d, 45) > sector {
+                let end = k + crate::superblock::le64(d, 45);
+                let before = keys.iter().filter(|x| **x >= *k && **x < firstw).count();
+                add(&format!("join: takes in {before} item(s) before the first written sector"));
+                if end > lastw + sector { add("join: takes in what follows the last written sector"); }
+                if p.writes.len() == 2 && *k <= firstw && end > lastw { add("join: over both sectors"); }
+            } } }
+        }
+        if p.edits.iter().any(|(_, d)| d.as_ref().is_some_and(|d| d[16] != 0 && d[20] == 1 && crate::superblock::le64(d, 0) == r.facts.generation.wrapping_add(1))) { add("plan: in place in a compressed item"); }
+    }
+}
+pub fn fuzz(seed: u64, count: u64) {
+    std::panic::set_hook(Box::new(|_| {}));
+    let mut g = Rng(seed.wrapping_mul(0x1234_5678_9abc_def1));
+    let mut n: BTreeMap<String, u64> = BTreeMap::new();
+    let mut shown = 0;
+    let mut diffs = 0u64;
+    for i in 0..count {
+        let mut r = gen::request(&mut g);
+        let (_, wanted) = oracle::run(&r);
+        r.facts.places = Some(gen::places(&mut g, &r, wanted.len()));
+        let (theirs, _) = oracle::run(&r);
+        match &theirs {
+            Outcome::Plan(p) => { *n.entry("PLANS".into()).or_default() += 1; shape(p, &r, &mut n); }
+            Outcome::Nothing => *n.entry("NOTHING".into()).or_default() += 1,
+            Outcome::Refused(k) => *n.entry(format!("REFUSED {k:02}")).or_default() += 1,
+            Outcome::Panicked(m) => *n.entry(format!("PANICKED {m}")).or_default() += 1,
+        }
+        if let Some((a, b, why)) = differs(&r) {
+            diffs += 1;
+            if shown < 5 {
+                shown += 1;
+                let small = shrink(r.clone());
+                println!("==== difference at {i}: {why}\n{}---- rust\n{}---- ours\n{}", text::request(&r), text::outcome(&a), text::outcome(&b));
+                if let Some((a, b, why)) = differs(&small) { println!("==== shrunk: {why}\n{}---- rust\n{}---- ours\n{}", text::request(&small), text::outcome(&a), text::outcome(&b)); }
+            }
+            continue;
+        }
+        // 27: just enough room, and in one output a number too little
+        if let Outcome::Plan(p) = &theirs {
+            let mut rooms = rooms_for(p);
+            let short = g.pct(50).then(|| g.below(6) as usize).filter(|&k| rooms[k] > 0);
+            if let Some(k) = short { rooms[k] -= 1; }
+            let (o, bad) = ours::run(&r, rooms);
+            let right = if short.is_some() { o == Outcome::Refused(27) } else { o == theirs };
+            *n.entry(if short.is_some() { "ROOM short (27 due)" } else { "ROOM exact" }.into()).or_default() += 1;
+            if !right || bad.is_some() { diffs += 1; println!("==== room {short:?} {bad:?}\n{}{}", text::request(&r), text::outcome(&o)); }
+        }
+    }
+    println!("compared {count}, differences {diffs}");
+    for (k, v) in n { println!("{v:>10}  {k}"); }
+}

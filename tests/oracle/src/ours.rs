@@ -1,0 +1,78 @@
+// Our side: the proved punch, linked from libffi.a (crate `ffi`: numbers in, an answer and nine numbers out).
+use crate::oracle::{Op, Outcome, Plan, Request};
+extern "C" {
+    fn zag_punch(
+        sector: u64, total: u64, generation: u64, snapshot: u64, number: u64, size: u64, nodatacow: bool, offset: u64, length: u64,
+        list: *const u8, list_n: u64, shared: *const u8, shared_n: u64, table: *const u64, table_n: u64, places: *const u64, places_n: u64,
+        edits: *mut u8, edits_n: u64, shares: *mut u64, shares_n: u64, unrefs: *mut u64, unrefs_n: u64,
+        releases: *mut u64, releases_n: u64, adds: *mut u64, adds_n: u64, writes: *mut u64, writes_n: u64,
+        answer: *mut u64, answer_n: u64,
+    ) -> u8;
+}
+pub fn list_bytes(ino: u64, items: &[(u64, Vec<u8>)]) -> Vec<u8> {
+    let mut v = Vec::with_capacity(items.len() * 70);
+    for (k, d) in items { v.extend(ino.to_le_bytes()); v.push(108); v.extend(k.to_le_bytes()); v.extend(d); }
+    v
+}
+const E: u8 = 0xa5;
+const W: u64 = 0xa5a5_5a5a_1234_4321;
+/// The outcome with outputs of these lengths (edits in bytes, the others in numbers), and what is broken about the outputs.
+pub fn run(r: &Request, rooms: [usize; 6]) -> (Outcome, Option<String>) {
+    let f = &r.facts.files[0];
+    let list = list_bytes(f.ino, &f.items);
+    let table: Vec<u64> = r.facts.rows.iter().flatten().copied().collect();
+    let places = r.facts.places.clone().unwrap_or_default();
+    let Op::Punch(offset, length) = r.op else { panic!("a punch") };
+    raw(r.sector, r.total, r.facts.generation, r.facts.snapshot, f.ino, f.size, f.nodatacow, offset, length, &list, &f.shared, &table, &places, rooms)
+}
+#[allow(clippy::too_many_arguments)]
+pub fn raw(
+    sector: u64, total: u64, generation: u64, snapshot: u64, ino: u64, size: u64, nodatacow: bool, offset: u64, length: u64,
+    list: &[u8], shared: &[u8], table: &[u64], places: &[u64], rooms: [usize; 6],
+) -> (Outcome, Option<String>) {
+    let mut e = vec![E; rooms[0]];
+    let mut o: Vec<Vec<u64>> = (1..6).map(|i| vec![W; rooms[i]]).collect();
+    let mut a = vec![W; 9];
+    let code = unsafe {
+        let p: Vec<*mut u64> = o.iter_mut().map(|v| v.as_mut_ptr()).collect();
+        zag_punch(
+            sector, total, generation, snapshot, ino, size, nodatacow, offset, length,
+            list.as_ptr(), list.len() as u64, shared.as_ptr(), shared.len() as u64, table.as_ptr(), table.len() as u64, places.as_ptr(), places.len() as u64,
+            e.as_mut_ptr(), rooms[0] as u64, p[0], rooms[1] as u64, p[1], rooms[2] as u64, p[2], rooms[3] as u64, p[3], rooms[4] as u64, p[4], rooms[5] as u64,
+            a.as_mut_ptr(), 9,
+        )
+    };
+    let untouched = |from: [usize; 6]| -> Option<String> {
+        if e[from[0]..].iter().any(|b| *b != E) { return Some("edits past the plan changed".into()); }
+        for i in 0..5 { if o[i][from[i + 1]..].iter().any(|b| *b != W) { return Some(format!("output {} past the plan changed", i + 1)); } }
+        None
+    };
+    if code != 0 {
+        let bad = if a.iter().any(|x| *x != W) { Some("numbers of no plan".into()) } else { untouched([0; 6]) };
+        return (if code == 100 { Outcome::Nothing } else { Outcome::Refused(code) }, bad);
+    }
+    let width = [71, 2, 2, 2, 3, 4];
+    let mut used = [0; 6];
+    for i in 0..6 {
+        used[i] = a[i] as usize * width[i];
+        if used[i] > rooms[i] { return (Outcome::Panicked("more lines than room".into()), None); }
+    }
+    let mut p = Plan { size: a[6], bytes: a[7], prealloc: a[8] == 1, ..Default::default() };
+    let mut bad = untouched(used);
+    for c in e[..used[0]].chunks(71) {
+        if c[1..9] != ino.to_le_bytes() || c[9] != 108 { bad = Some("an edit's number or type".into()); }
+        let key = u64::from_le_bytes(c[10..18].try_into().unwrap());
+        match c[0] {
+            1 => p.edits.push((key, Some(c[18..].to_vec()))),
+            2 => { if c[18..].iter().any(|b| *b != 0) { bad = Some("data of a delete".into()); } p.edits.push((key, None)) }
+            _ => bad = Some("an edit's tag".into()),
+        }
+    }
+    let two = |v: &[u64]| v.chunks(2).map(|c| [c[0], c[1]]).collect();
+    p.shares = two(&o[0][..used[1]]);
+    p.unrefs = two(&o[1][..used[2]]);
+    p.releases = two(&o[2][..used[3]]);
+    p.adds = o[3][..used[4]].chunks(3).map(|c| [c[0], c[1], c[2]]).collect();
+    p.writes = o[4][..used[5]].chunks(4).map(|c| [c[0], c[1], c[2], c[3]]).collect();
+    (Outcome::Plan(p), bad)
+}
