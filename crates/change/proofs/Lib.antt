@@ -13,3 +13,5 @@ pub mod Released
 pub mod Fits
 pub mod Examples
 pub mod Drafts
+pub mod Filled
+pub mod Sweep

@@ -123,21 +123,25 @@ module _ (g : Ground) (c : Change) (fair : Fair g c) (limit : ℕ) (pos : 0 < li
       pairs-picked (rewriteInside g c) (λ (r : Rewrite). not (inPlace g r)) (rewritesRise g) (sectorWanted g) wantedApart
       (λ a d ua ud pa pd r. wanted-before (sectorWanted g a) (sectorWanted g d) (leb-true (a .sector + g .sector) (d .sector) r)) (c .rewrites) (fair .rewrites) (fair .rising)
 
-  pieces-apart : pairs wantedApart (piecesWanted g c limit) ≡ true
-  pieces-apart =
-      pairs-mapped wantedApart pieceWanted (flatMap (preallocPieces limit) (c .holes))
-      ∙ pairs-flat (holeInside g c) holesRise (preallocPieces limit) (λ (x y : Span). wantedApart (pieceWanted x) (pieceWanted y))
-      (λ s e. pieces-pairs limit s (λ (x y : Span). wantedApart (pieceWanted x) (pieceWanted y)) 0 (pieceCount limit (s .length))
-      (λ i j a b d. wanted-before (pieceWanted (nthPiece limit s i)) (pieceWanted (nthPiece limit s j)) (piece-apart limit pos s i j b)))
+  -- the pieces lie one behind the other: what holds of two of which one ends at most where the other starts
+  pub pairs-piece : (q : Wanted → Wanted → Bool) → ((x y : Span) → 1 ≤ x .length → x .start + x .length ≤ y .start → q (pieceWanted x) (pieceWanted y) ≡ true) → pairs q (piecesWanted g c limit) ≡ true
+  pairs-piece q f =
+      pairs-mapped q pieceWanted (flatMap (preallocPieces limit) (c .holes))
+      ∙ pairs-flat (holeInside g c) holesRise (preallocPieces limit) (λ (x y : Span). q (pieceWanted x) (pieceWanted y))
+      (λ s e. pieces-pairs limit s (λ (x y : Span). q (pieceWanted x) (pieceWanted y)) 0 (pieceCount limit (s .length))
+      (λ i j a b d. f (nthPiece limit s i) (nthPiece limit s j) (piece-some limit pos s i (omega arith)) (piece-apart limit pos s i j b)))
       two (c .holes) (fair .holes) (fair .apart)
     where
       two : (s t : Span) → holeInside g c s ≡ true → holeInside g c t ≡ true → holesRise s t ≡ true
-          → every (λ (x : Span). every (λ (y : Span). wantedApart (pieceWanted x) (pieceWanted y)) (preallocPieces limit t)) (preallocPieces limit s) ≡ true
+          → every (λ (x : Span). every (λ (y : Span). q (pieceWanted x) (pieceWanted y)) (preallocPieces limit t)) (preallocPieces limit s) ≡ true
       two s t hs ht r =
           let l = leb-true (s .start + s .length) (t .start) r in
-          pieces-every limit s (λ (x : Span). every (λ (y : Span). wantedApart (pieceWanted x) (pieceWanted y)) (preallocPieces limit t)) 0 (pieceCount limit (s .length))
-          (λ i a b. pieces-every limit t (λ (y : Span). wantedApart (pieceWanted (nthPiece limit s i)) (pieceWanted y)) 0 (pieceCount limit (t .length))
-          (λ j d e. let p = piece-inside limit pos s i (omega arith) .1 in let q = piece-inside limit pos t j (omega arith) .0 in wanted-before (pieceWanted (nthPiece limit s i)) (pieceWanted (nthPiece limit t j)) (omega arith)))
+          pieces-every limit s (λ (x : Span). every (λ (y : Span). q (pieceWanted x) (pieceWanted y)) (preallocPieces limit t)) 0 (pieceCount limit (s .length))
+          (λ i a b. pieces-every limit t (λ (y : Span). q (pieceWanted (nthPiece limit s i)) (pieceWanted y)) 0 (pieceCount limit (t .length))
+          (λ j d e. let u = piece-inside limit pos s i (omega arith) .1 in let v = piece-inside limit pos t j (omega arith) .0 in f (nthPiece limit s i) (nthPiece limit t j) (piece-some limit pos s i (omega arith)) (omega arith)))
+
+  pieces-apart : pairs wantedApart (piecesWanted g c limit) ≡ true
+  pieces-apart = pairs-piece wantedApart (λ x y o l. wanted-before (pieceWanted x) (pieceWanted y) l)
 
   -- no two extents wanted share a byte of the file
   pub wanted-apart : pairs wantedApart (wanted g c limit) ≡ true

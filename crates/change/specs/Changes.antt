@@ -56,9 +56,13 @@ writesAnew [] rs = []
 writesAnew (p ∷ ps) [] = []
 writesAnew (p ∷ ps) (r ∷ rs) = record { key = r .sector; at = p; first = r .first; end = r .end } ∷ writesAnew ps rs
 
+-- the stretch of the file that a new extent is for
+abbrev pub spanFor : Wanted → Span
+spanFor w = record { start = w .key; length = w .length }
+
 pub record Drafted : Type 0 where
   pub numbers : Numbers
-  pub lengths : List ℕ
+  pub extents : List Span
 
 module _ (g : Ground) (c : Change) where
   -- the file's items before the change
@@ -142,9 +146,9 @@ module _ (g : Ground) (c : Change) where
           (plan planOf)
 
     -- ---- the first half, with no place taken: all refusals but 26 and 27, the plan's numbers (each place counts as 1: they
-    -- are the same whatever places are taken), and how long each extent is that a place is wanted for
+    -- are the same whatever places are taken), and the stretch that each extent is for which a place is wanted
     unfoldable pub drafted : Outcome Drafted
     drafted =
         cond (eqb changeRefusal 0)
-        (plan (record { numbers = numbers (planOf (replicate (length wanted) 1)); lengths = map (λ (w : Wanted). w .length) wanted }))
+        (plan (record { numbers = numbers (planOf (replicate (length wanted) 1)); extents = map spanFor wanted }))
         (refused changeRefusal)

@@ -2,3 +2,4 @@ pub mod Rounding
 pub mod Preallocs
 pub mod Rewrites
 pub mod Changes
+pub mod Sweep

@@ -21,6 +21,24 @@ pub struct RangeChange {
     pub back: Rewrite,
 }
 
+// The stretch of the file whose holes are filled, [from, to), and the file's new size.
+pub struct Fill {
+    pub from: u64,
+    pub to: u64,
+    pub size: u64,
+}
+
+// No holes to fill, and this size.
+pub fn no_holes(size: u64) -> Fill
+    ensures { λ r. ⌜ r ≡ record { from = 0; to = 0; size = size } ⌝ }
+{
+    Fill {
+        from: 0,
+        to: 0,
+        size,
+    }
+}
+
 // The start of the sector that holds x.
 pub fn round_down(sector: u64, x: u64) -> u64
     requires { ⌜ 0 < sector ⌝ }

@@ -1,9 +1,10 @@
 -- A list where a segment stands for a part of it: its edits and bytes, and that a change's lists are well kept. Assumes nothing.
 use mathlib.Core.Path.{_≡_, refl, ap₂, _∙_}
-use mathlib.Core.Bool.{Bool, true, false}
+use mathlib.Core.Bool.{Bool, true, false, not}
 use mathlib.Core.List.{List, [], _∷_, _++_, map, map-append, map-map, map-id}
 use Prim.Native.Nat.{ℕ, _+_, _-_, _%_, _^_, _≤_, _<_}
 use native.Mathlib.Omega.{arith}
+use lib.Dec.{eqb}
 use lib.ListN.{take, drop, take-append-drop}
 use Rattle.records.specs.Stages.{every, pairs}
 use Rattle.records.proofs.Tests.{both, both-left, both-right, every-map}
@@ -11,13 +12,14 @@ use Rattle.records.proofs.Lists.{every-true}
 use Rattle.item.specs.Items.{Fields, ranged}
 use Rattle.lists.specs.Lists.{itemSound, rises, apart}
 use Rattle.lists.proofs.Laws.{Kept}
-use Rattle.cut.specs.Pieces.{Piece, made, kept, itemsOf, replaced, countedBytes}
+use Rattle.cut.specs.Pieces.{Piece, made, kept, itemsOf, insertAll, replaced, countedBytes}
 use Rattle.cut.specs.Edits.{edits}
 use Rattle.cut.proofs.Bytes.{bytes-append, bytes-fit}
 use Rattle.cut.proofs.Kept.{clear-apart, kept-from, from-keeps, from-insertAll, from-ranged}
 use Rattle.segment.specs.declared.Segment.{Segment}
 use Rattle.records.proofs.Lists.{pairs-drop}
-use Rattle.edits.proofs.Replaced.{edits-replaced}
+use Rattle.cut.proofs.Inserts.{fresh, inserted-rises}
+use Rattle.edits.proofs.Filled.{edits-filled}
 use Rattle.plan.specs.Plans.{Add}
 use Rattle.plan.specs.Places.{Wanted}
 use Rattle.change.specs.Rewrites.{Ground}
@@ -87,13 +89,22 @@ module _ (fs : List Fields) (s : Segment) (segment : List Fields) where
       pub segment-rises : pairs rises segment ≡ true
       segment-rises = pairs-parts rises segment behind (pairs-parts rises ahead (segment ++ behind) rising .1) .0
 
-      -- the edits of the whole are those of the part
-      pub edits-same : Kept file fs → s .from ≤ s .to → edits fs pieces ≡ edits (middle fs s) (map made segment)
-      edits-same o l =
+      -- the edits of the whole are those of the part, with the same new items among them
+      pub edits-same : Kept file fs → s .from ≤ s .to → (ys : List Fields) → pairs rises ys ≡ true → every (fresh fs) ys ≡ true → every (fresh (itemsOf pieces)) ys ≡ true
+          → edits fs (insertAll ys pieces) ≡ edits (middle fs s) (insertAll ys (map made segment))
+      edits-same o l ys r olds news =
           let h = pairs-parts rises ahead (segment ++ behind) rising in
-          edits-replaced fs (s .from) (s .to) segment (o .rising) l
+          edits-filled fs (s .from) (s .to) segment ys (o .rising) l
           (every-map (λ (f : Fields). every (rises f) (segment ++ behind)) (λ (f : Fields). every (rises f) segment) (λ f e. every-parts (rises f) segment behind e .0) ahead (h .2))
-          (pairs-parts rises segment behind (h .1) .2)
+          (pairs-parts rises segment behind (h .1) .2) (k .rising) r olds news
+
+      -- what takes its place rises with them
+      pub part-rises : (ys : List Fields) → pairs rises ys ≡ true → every (fresh (itemsOf pieces)) ys ≡ true → pairs rises (itemsOf (insertAll ys (map made segment))) ≡ true
+      part-rises ys r news =
+          inserted-rises (map made segment) ys (rw (marked true segment) segment-rises) r
+          (rw (marked true segment)
+          (every-map (fresh (itemsOf pieces)) (fresh segment)
+          (λ y e. let d : Fields → Bool = λ f. not (eqb (f .key) (y .key)) in every-parts d segment behind (every-parts d ahead (segment ++ behind) (rw items-replaced at e) .1) .0) ys news))
 
       -- the bytes fit
       pub bytes-below : every ranged (itemsOf pieces) ≡ true → countedBytes ahead + (countedBytes segment + countedBytes behind) < 2 ^ 64

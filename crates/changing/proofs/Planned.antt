@@ -33,8 +33,8 @@ use Rattle.request.specs.declared.File.{File}
 use Rattle.drops.specs.declared.Cut.{Cut}
 use Rattle.drops.specs.Dropped.{dropsIn}
 use Rattle.drops.proofs.Cuts.{drops-among}
-use Rattle.edits.specs.Splits.{elsewhere}
-use Rattle.edits.proofs.Shares.{two-extents}
+use Rattle.splits.specs.Splits.{elsewhere}
+use Rattle.splits.proofs.Shares.{two-extents}
 use Rattle.refs.proofs.Among.{nonzero, among-nonzero}
 use Rattle.compared.proofs.Laws.{refs-nonzero}
 use Rattle.compared.proofs.Nearest.{named-start}

@@ -5,12 +5,11 @@ use mathlib.Core.List.{List, [], _∷_, _++_, map, flatMap, append-nil, append-a
 use mathlib.Core.Option.{none, some}
 use Prim.Native.Nat.{ℕ, _≤_}
 use native.Mathlib.Omega.{arith}
-use lib.Dec.{eqb}
 use lib.ListN.{length, length-append}
-use Rattle.records.specs.Select.{only, keep, any}
+use Rattle.records.specs.Select.{only, keep}
 use Rattle.records.proofs.Picks.{keep-append, only-few}
 use Rattle.refs.specs.Drops.{Held}
-use Rattle.plan.specs.Places.{Wanted, placed}
+use Rattle.plan.specs.Places.{Wanted}
 use Rattle.change.specs.declared.Rewrite.{Rewrite}
 use Rattle.change.specs.declared.RangeChange.{RangeChange}
 use Rattle.change.specs.Rewrites.{Ground, whenHeld, preallocated, inPlace, eachInPlace, rewrittenAnew}
@@ -19,7 +18,7 @@ use Rattle.rewrites.specs.declared.Holder.{Holder}
 use Rattle.rewrites.specs.Raw.{heldIn, holderIn}
 use Rattle.changing.specs.declared.Parts.{Parts}
 use Rattle.changing.specs.Raw.{Parting}
-use Rattle.changing.specs.Sides.{frontNew, backNew, sides, wantedAt, newAt, addOf, writeAt}
+use Rattle.changing.specs.Sides.{frontNew, backNew, sides, wantedAt, newAt, writeAt}
 
 -- ---- one sector
 
@@ -93,24 +92,11 @@ module _ (g : Ground) (c : RangeChange) (size : ℕ) (p : Parts) (part : Parting
         rw (wanted-sides limit)
         (ways (λ a b. newItems g (sides a b x y) (sides a b (wantedAt g (c .front)) (wantedAt g (c .back))) ≡ sides a b (newAt g (c .front) x) (newAt g (c .back) y)) refl refl refl refl (frontNew c p) (backNew c p))
 
-    pub adds-sides : placed places (wanted g ch limit) ≡ sides (frontNew c p) (backNew c p) (addOf (g .sector) (c .front) x) (addOf (g .sector) (c .back) y)
-    unfolding placed
-    adds-sides =
-        rw (wanted-sides limit)
-        (ways (λ a b. placed (sides a b x y) (sides a b (wantedAt g (c .front)) (wantedAt g (c .back))) ≡ sides a b (addOf (g .sector) (c .front) x) (addOf (g .sector) (c .back) y)) refl refl refl refl (frontNew c p) (backNew c p))
-
     pub writes-sides : writesAnew places (rewrittenAnew g (ch .rewrites)) ≡ sides (frontNew c p) (backNew c p) (writeAt (c .front) x) (writeAt (c .back) y)
     unfolding writesAnew
     writes-sides =
         rw anew-sides
         (ways (λ a b. writesAnew (sides a b x y) (sides a b (c .front) (c .back)) ≡ sides a b (writeAt (c .front) x) (writeAt (c .back) y)) refl refl refl refl (frontNew c p) (backNew c p))
-
-  -- nothing is preallocated
-  pub none-preallocated : (limit : ℕ) → any (λ (w : Wanted). eqb (w .kind) 2) (wanted g ch limit) ≡ false
-  unfolding any
-  none-preallocated limit =
-      rw (wanted-sides limit)
-      (ways (λ a b. any (λ (w : Wanted). eqb (w .kind) 2) (sides a b (wantedAt g (c .front)) (wantedAt g (c .back))) ≡ false) refl refl refl refl (frontNew c p) (backNew c p))
 
 -- ---- how many
 

@@ -12,7 +12,7 @@ use Rattle.records.specs.Select.{keep}
 use Rattle.cut.specs.Cuts.{split}
 use Rattle.cut.specs.Refs.{refOf}
 use Rattle.cut.specs.Pieces.{countedBytes}
-use Rattle.edits.specs.Splits.{elsewhere}
+use Rattle.splits.specs.Splits.{elsewhere}
 use Rattle.change.proofs.Drafts.{keep-most}
 use Rattle.segment.specs.declared.Segment.{Segment}
 use Rattle.segment.specs.Segments.{Good, segmentOf}

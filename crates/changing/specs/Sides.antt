@@ -20,8 +20,8 @@ use Rattle.refs.specs.Compared.{refsAmong, minus}
 use Rattle.refs.specs.Drops.{unrefs}
 use Rattle.drops.specs.declared.Cut.{Cut}
 use Rattle.drops.specs.Dropped.{dropsIn}
-use Rattle.edits.specs.Splits.{elsewhere}
-use Rattle.plan.specs.Plans.{Add, Write}
+use Rattle.splits.specs.Splits.{elsewhere}
+use Rattle.plan.specs.Plans.{Write}
 use Rattle.plan.specs.Places.{Wanted}
 use Rattle.change.specs.declared.Rewrite.{Rewrite}
 use Rattle.change.specs.declared.RangeChange.{RangeChange}
@@ -42,15 +42,12 @@ backNew c p = c .«has_back» && not (p .back .found)
 abbrev pub sides : {A : Type 0} → Bool → Bool → A → A → List A
 sides a b x y = only a x ++ only b y
 
--- a sector's new extent, its item, its add and its write
+-- a sector's new extent, its item and its write
 abbrev pub wantedAt : Ground → Rewrite → Wanted
 wantedAt g r = record { key = r .sector; length = g .sector; kind = 1 }
 
 abbrev pub newAt : Ground → Rewrite → ℕ → Fields
 newAt g r x = regularItem (g .file) (r .sector) (newGeneration g) x (g .sector)
-
-abbrev pub addOf : (sector : ℕ) → Rewrite → ℕ → Add
-addOf sector r x = record { start = x; length = sector; key = r .sector }
 
 abbrev pub writeAt : Rewrite → ℕ → Write
 writeAt r x = record { key = r .sector; at = x; first = r .first; end = r .end }

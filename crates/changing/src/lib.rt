@@ -19,17 +19,18 @@ ghost use Rattle.item.specs.Items.{fields, items};
 ghost use Rattle.table.specs.Rows.{rows, tableKept};
 ghost use Rattle.records.specs.Stages.{pairs};
 ghost use Rattle.lists.specs.Lists.{rangeSound, rises};
-ghost use Rattle.cut.specs.Pieces.{made, countedBytes};
+ghost use Rattle.cut.specs.Pieces.{made, itemsOf, insertAll, countedBytes};
+ghost use Rattle.edits.specs.Pieced.{pieceItems};
 ghost use Rattle.cut.specs.Edits.{edits};
 ghost use Rattle.cut.specs.Mappings.{holds};
 ghost use Rattle.segment.specs.Segments.{itemAt, segmentOf, Good, Around};
 ghost use Rattle.refs.specs.Drops.{held};
-ghost use Rattle.plan.specs.Outputs.{editBytes, refNumbers, addNumbers, writeNumbers};
+ghost use Rattle.plan.specs.Outputs.{editBytes, refNumbers, writeNumbers};
 ghost use Rattle.lines.specs.Lines.{Laid};
 ghost use Rattle.change.specs.Rewrites.{positionOf, writeInPlace};
 ghost use Rattle.rewrites.specs.Raw.{heldIn};
 ghost use Rattle.changing.specs.Raw.{Parting, PutIf, JoinedIf, Made, Ready, partItem, newItem};
-ghost use Rattle.changing.specs.Sides.{frontNew, backNew, sides, addOf, writeAt, Writable, writesOf, joinedPieces, afterPieces, middle, cutOf, comparedOf, sharesOf, unrefsOf, bytesOf};
+ghost use Rattle.changing.specs.Sides.{frontNew, backNew, sides, writeAt, Writable, writesOf, joinedPieces, afterPieces, middle, cutOf, comparedOf, sharesOf, unrefsOf, bytesOf};
 
 // The preallocated items that hold a change's two sectors, each if it is there: those sectors are written in place.
 pub struct Parts {
@@ -116,26 +117,7 @@ pub fn back_new(c: RangeChange, p: Parts) -> bool
     both(c.has_back, !back.found)
 }
 
-// ---- adds and writes
-
-// A sector's new extent as line n, if it takes one.
-fn put_new_add(new: bool, sector: u64, r: Rewrite, place: u64, out: &mut [u64], n: usize) -> usize
-    requires { ⌜ n + 1 < 2 ^ 64 ⌝ }
-    ensures { λ m. ⌜ Laid addNumbers 3 n (only new (addOf sector r place)) (now (out .entry)) m (now (out .exit)) ⌝ }
-{
-    if !new {
-        return n;
-    }
-    lines::put_add(out, n, place, sector, r.sector)
-}
-
-// The adds of a plan: x is the front sector's place, y the back one's.
-pub fn put_adds(c: RangeChange, p: Parts, sector: u64, x: u64, y: u64, out: &mut [u64]) -> usize
-    ensures { λ m. ⌜ Laid addNumbers 3 0 (sides (frontNew c p) (backNew c p) (addOf sector (c .front) x) (addOf sector (c .back) y)) (now (out .entry)) m (now (out .exit)) ⌝ }
-{
-    let n = put_new_add(front_new(c, p), sector, c.front, x, out, 0);
-    put_new_add(back_new(c, p), sector, c.back, y, out, n)
-}
+// ---- writes
 
 // A sector's write to its new extent as line n, if it takes one.
 fn put_new_write(new: bool, r: Rewrite, place: u64, out: &mut [u64], n: usize) -> usize
@@ -227,7 +209,7 @@ pub fn put_shares(k: Cut, list: &[u8], seg: &[u8], s: Segment, out: &mut [u64]) 
     requires { ⌜ Good (now list) s (now seg) × (length (items (now list)) ≤ 65536) × (s .count ≤ 4) ⌝ }
     ensures { λ m. ⌜ Laid refNumbers 2 0 (sharesOf k (items (now (list .entry))) s (segmentOf s (now (seg .entry)))) (now (out .entry)) m (now (out .exit)) ⌝ }
 {
-    let n = edits::put_splits(list, k.lo, k.hi, k.one, k.two, out, 0);
+    let n = splits::put_splits(list, k.lo, k.hi, k.one, k.two, out, 0);
     put_more(k, list, seg, s, out, n)
 }
 
@@ -250,15 +232,31 @@ pub fn put_unrefs(
 
 // ---- edits and bytes
 
-// The edits of a plan.
-pub fn put_changes(file: u64, list: &[u8], seg: &[u8], s: Segment, out: &mut [u8]) -> usize
-    requires { ⌜ Good (now list) s (now seg) × (pairs rises (middle (items (now list)) s) ≡ true) × (pairs rises (segmentOf s (now seg)) ≡ true) × (length (items (now list)) ≤ 65536) × (s .count ≤ 6) ⌝ }
-    ensures { λ m. ⌜ Laid (editBytes file) 71 0 (edits (middle (items (now (list .entry))) s) (map made (segmentOf s (now (seg .entry))))) (now (out .entry)) m (now (out .exit)) ⌝ }
+// The edits of a plan, with new pieces among them: adds, three numbers each.
+pub fn put_changes(
+    file: u64,
+    generation: u64,
+    list: &[u8],
+    seg: &[u8],
+    s: Segment,
+    pieces: &[u64],
+    out: &mut [u8],
+) -> usize
+    requires { ⌜ Good (now list) s (now seg) × (pairs rises (middle (items (now list)) s) ≡ true) × (pairs rises (pieceItems file generation (now pieces)) ≡ true) × (pairs rises (itemsOf (insertAll (pieceItems file generation (now pieces)) (map made (segmentOf s (now seg))))) ≡ true) × (length (items (now list)) ≤ 65536) × (s .count ≤ 6) ⌝ }
+    ensures { λ m. ⌜ Laid (editBytes file) 71 0 (edits (middle (items (now (list .entry))) s) (insertAll (pieceItems file generation (now (pieces .entry))) (map made (segmentOf s (now (seg .entry)))))) (now (out .entry)) m (now (out .exit)) ⌝ }
 {
     let from = s.from * 70;
     let to = s.to * 70;
     let end = s.count * 70;
-    edits::put_edits(&list[from..to], &seg[0..end], file, out, 0)
+    edits::put_edits(
+        &list[from..to],
+        &seg[0..end],
+        pieces,
+        file,
+        generation,
+        out,
+        0,
+    )
 }
 
 // The bytes that records from..to of a list count.
@@ -268,7 +266,7 @@ fn bytes_in(list: &[u8], from: usize, to: usize) -> u64
 {
     let a = from * 70;
     let b = to * 70;
-    edits::counted_bytes(&list[a..b])
+    splits::counted_bytes(&list[a..b])
 }
 
 // The bytes that the file's items count after the change.

@@ -67,7 +67,7 @@ module _ {A : Type 0} (key : A → ℕ) where
 abbrev pub ItemsUp : ℕ → List Fields → Type 0
 ItemsUp b fs = Up (λ (f : Fields). f .key) b fs
 
-abbrev EditsUp : ℕ → List Edit → Type 0
+abbrev pub EditsUp : ℕ → List Edit → Type 0
 EditsUp b es = Up keyOf b es
 
 -- ---- each kept piece is an old item
@@ -169,15 +169,15 @@ from-tail f fs (p ∷ ps) b h u r = (source-tail (omega arith) (r .0), from-tail
 -- ---- the edits by cases
 
 -- items and pieces behind k
-items-past : (k : ℕ) (fs : List Fields) → ItemsUp (suc k) fs → every (λ (f : Fields). ltb k (f .key)) fs ≡ true
+pub items-past : (k : ℕ) (fs : List Fields) → ItemsUp (suc k) fs → every (λ (f : Fields). ltb k (f .key)) fs ≡ true
 items-past k fs u = above (λ (f : Fields). f .key) k (suc k) fs (omega arith) u
 
-pieces-past : (k : ℕ) (ps : List Piece) → ItemsUp (suc k) (itemsOf ps) → every (over k) ps ≡ true
+pub pieces-past : (k : ℕ) (ps : List Piece) → ItemsUp (suc k) (itemsOf ps) → every (over k) ps ≡ true
 pieces-past k ps u = sym (every-mapped (λ (f : Fields). ltb k (f .key)) (λ (p : Piece). p .item) ps) ∙ items-past k (itemsOf ps) u
 
 -- old items and pieces by rising keys from b on, and the edits between them: the lowest key is that of an old item that
 -- is gone, of a piece alone, or of both
-data Merged : ℕ → List Fields → List Piece → List Edit → Type 0 where
+pub data Merged : ℕ → List Fields → List Piece → List Edit → Type 0 where
   done : {b : ℕ} → Merged b [] [] []
   gone : {b : ℕ} {f : Fields} {fs : List Fields} {ps : List Piece} {es : List Edit} → b ≤ f .key → Merged (suc (f .key)) fs ps es → Merged b (f ∷ fs) ps (delete (f .key) ∷ es)
   first : {b : ℕ} {fs : List Fields} {p : Piece} {ps : List Piece} {es : List Edit} → b ≤ p .item .key → Merged (suc (p .item .key)) fs ps es → Merged b fs (p ∷ ps) (putsOf p ++ es)
@@ -216,7 +216,7 @@ puts-up b p es l u = go (p .made)
     go false = up-from keyOf b (suc (p .item .key)) es (omega arith) u
 
 -- all three lists rise
-merged-up : {b : ℕ} {fs : List Fields} {ps : List Piece} {es : List Edit} → Merged b fs ps es → ItemsUp b fs × ItemsUp b (itemsOf ps) × EditsUp b es
+pub merged-up : {b : ℕ} {fs : List Fields} {ps : List Piece} {es : List Edit} → Merged b fs ps es → ItemsUp b fs × ItemsUp b (itemsOf ps) × EditsUp b es
 merged-up done = (tt, tt, tt)
 merged-up {b} (gone {f} {ps} l m) =
     let u = merged-up m in
@@ -365,7 +365,7 @@ applied (same {f} {fs} {p} {ps} {es} l e m) r =
 -- ---- the edits of a plan
 
 module _ (fs : List Fields) (ps : List Piece) (hf : pairs rises fs ≡ true) (hp : pairs rises (itemsOf ps) ≡ true) where
-  between : Merged 0 fs ps (edits fs ps)
+  pub between : Merged 0 fs ps (edits fs ps)
   between = merged fs ps 0 (rising-up (λ (f : Fields). f .key) fs hf) (rising-up (λ (f : Fields). f .key) (itemsOf ps) hp)
 
   pub edits-applied : From fs ps → itemsAfter fs (edits fs ps) ≡ ps

@@ -4,4 +4,5 @@ pub mod Counts
 pub mod Bytes
 pub mod Cases
 pub mod Applied
+pub mod Inserts
 pub mod Examples

@@ -1,5 +1,5 @@
 pub mod Cases
-pub mod Sizes
 pub mod Replaced
+pub mod Filled
+pub mod News
 pub mod Steps
-pub mod Shares

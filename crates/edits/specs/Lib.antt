@@ -1,2 +1,2 @@
-pub mod Splits
+pub mod Pieced
 pub mod Merge

@@ -1,52 +1,84 @@
--- The edits between two lists, one a step: which of the two heads goes on, and what a step does.
+-- The edits between an old list and the new items, one a step: which new item is the next, whether an old one goes before
+-- it, and what a step does.
 use mathlib.Core.Path.{_≡_}
-use mathlib.Core.Bool.{Bool, true, false, cond}
+use mathlib.Core.Bool.{Bool, true, false, cond, _||_, not}
 use mathlib.Core.List.{List, [], _∷_, map}
 use Prim.Native.Nat.{ℕ, _+_, _/_, _≤_, _<_, _^_}
 use lib.Dec.{eqb, ltb}
 use lib.ListN.{length, drop}
 use Rattle.records.specs.Stages.{pairs}
-use Rattle.item.specs.Items.{Fields, items}
+use Rattle.item.specs.Items.{Fields, fields, items}
 use Rattle.lists.specs.Lists.{rises}
-use Rattle.cut.specs.Pieces.{made}
+use Rattle.cut.specs.Pieces.{Piece, made, itemsOf, insertAll}
 use Rattle.cut.specs.Edits.{Edit, edits}
+use Rattle.plan.specs.Plans.{Add}
 use Rattle.plan.specs.Outputs.{editBytes}
 use Rattle.lines.specs.Lines.{Laid}
+use Rattle.edits.specs.Pieced.{addsIn, pieceItem, pieceItems}
+use Rattle.edits.specs.declared.Next.{Next}
 use Rattle.edits.specs.declared.Place.{Place}
 
--- the old list's next key comes before all new ones: it goes
-abbrev pub gone : List Fields → List Fields → Bool
-gone [] gs = false
-gone (f ∷ fs) [] = true
-gone (f ∷ fs) (g ∷ gs) = ltb (f .key) (g .key)
+-- a list's items from number i on
+abbrev pub from : List ℕ → ℕ → List Fields
+from s i = drop i (items s)
+
+-- the next piece comes before all items that are left
+abbrev pub pieceFirst : List Fields → List Add → Bool
+pieceFirst gs [] = false
+pieceFirst [] (a ∷ adds) = true
+pieceFirst (g ∷ gs) (a ∷ adds) = ltb (a .key) (g .key)
+
+-- the old list's next key comes before the next new one, if there is one: it goes
+abbrev pub gone : Bool → ℕ → List Fields → Bool
+gone some key [] = false
+gone some key (f ∷ fs) = not some || ltb (f .key) key
 
 -- the old items behind a key that is put
 abbrev pub behind : ℕ → List Fields → List Fields
 behind k [] = []
 behind k (f ∷ fs) = cond (eqb (f .key) k) fs (f ∷ fs)
 
--- a list's items from number i on
-abbrev pub from : List ℕ → ℕ → List Fields
-from s i = drop i (items s)
+module _ (file generation : ℕ) where
+  -- new items: pieces put in among others
+  abbrev pub together : List Add → List Fields → List Piece
+  together adds gs = insertAll (map (pieceItem file generation) adds) (map made gs)
 
--- the edits that are left from item i of the old list and item j of the segment on
-abbrev pub editsFrom : (old segment : List ℕ) → (i j : ℕ) → List Edit
-editsFrom old segment i j = edits (from old i) (map made (from segment j))
+  module _ (segment pieces : List ℕ) where
+    -- the new items that are left from item j of the segment and piece k on
+    abbrev pub news : (j k : ℕ) → List Piece
+    news j k = together (drop k (addsIn pieces)) (from segment j)
 
--- a step appends the first edit that is left, and goes on by one item or two
-pub record Stepped (file : ℕ) (old segment : List ℕ) (at : Place) (out : List ℕ) (to : Place) (out′ : List ℕ) : Type 0 where
-  pub edit : Edit
-  pub first : editsFrom old segment (at .i) (at .j) ≡ edit ∷ editsFrom old segment (to .i) (to .j)
-  pub laid : Laid (editBytes file) 71 (at .n) (edit ∷ []) out (to .n) out′
-  pub on : at .i + at .j < to .i + to .j
-  pub i : to .i ≤ length old / 70
-  pub j : to .j ≤ length segment / 70
+    -- the first of them and what is left behind it, or that none is left
+    pub record IsNext (j₀ k₀ : ℕ) (next : Next) : Type 0 where
+      pub some : next .some ≡ true → news j₀ k₀ ≡ made (fields (next .item)) ∷ news (next .j) (next .k)
+      pub none : next .some ≡ false → (length segment / 70 ≤ j₀) × (length pieces / 3 ≤ k₀)
+      pub on : next .some ≡ true → j₀ + k₀ < next .j + next .k
+      pub j : next .j ≤ length segment / 70
+      pub k : next .k ≤ length pieces / 3
 
--- what a step asks: both lists rise, there is an item left, and the number of edits stays below 2^64
-pub record Ready (old segment : List ℕ) (at : Place) : Type 0 where
-  pub olds : pairs rises (items old) ≡ true
-  pub news : pairs rises (items segment) ≡ true
-  pub some : at .i + at .j < length old / 70 + length segment / 70
-  pub i : at .i ≤ length old / 70
-  pub j : at .j ≤ length segment / 70
-  pub n : at .n + 1 < 2 ^ 64
+    module _ (old : List ℕ) where
+      -- the edits that are left
+      abbrev pub editsFrom : Place → List Edit
+      editsFrom at = edits (from old (at .i)) (news (at .j) (at .k))
+
+      -- what a step asks: the lists rise, there is an item left, and the number of edits stays below 2^64
+      pub record Ready (at : Place) : Type 0 where
+        pub olds : pairs rises (items old) ≡ true
+        pub adds : pairs rises (pieceItems file generation pieces) ≡ true
+        pub news : pairs rises (itemsOf (news (at .j) (at .k))) ≡ true
+        pub some : at .i + (at .j + at .k) < length old / 70 + (length segment / 70 + length pieces / 3)
+        pub i : at .i ≤ length old / 70
+        pub j : at .j ≤ length segment / 70
+        pub k : at .k ≤ length pieces / 3
+        pub n : at .n + 1 < 2 ^ 64
+
+      -- a step appends the first edit that is left, and goes on by one item or two
+      pub record Stepped (at : Place) (out : List ℕ) (to : Place) (out′ : List ℕ) : Type 0 where
+        pub edit : Edit
+        pub first : editsFrom at ≡ edit ∷ editsFrom to
+        pub news : pairs rises (itemsOf (news (to .j) (to .k))) ≡ true
+        pub laid : Laid (editBytes file) 71 (at .n) (edit ∷ []) out (to .n) out′
+        pub on : at .i + (at .j + at .k) < to .i + (to .j + to .k)
+        pub i : to .i ≤ length old / 70
+        pub j : to .j ≤ length segment / 70
+        pub k : to .k ≤ length pieces / 3

@@ -23,7 +23,8 @@ use Rattle.change.specs.Preallocs.{Span, piecesFrom}
 use Rattle.change.specs.Rewrites.{holderOf, eachInPlace}
 use Rattle.change.specs.Changes.{newItems, writesAnew, piecesWritten, piecesJoined, drops, changeRefusal, piecesAfter, changed}
 use Rattle.punch.specs.Punch.{rangeRefusal}
-use Rattle.fallocate.specs.Fallocate.{lessItems, holesToAllocate, sumOf, fallocateRefusal, fallocate}
+use Rattle.change.specs.Sweep.{sumOf}
+use Rattle.fallocate.specs.Fallocate.{lessItems, holesToAllocate, fallocateRefusal, fallocate}
 
 item : (kind key position length : ℕ) → Fields
 item kind key position length = withNumbers (regularItem 257 key 7 1048576 16384) 257 key 7 kind position length

@@ -24,7 +24,8 @@ use Rattle.change.specs.Rewrites.{Ground, itemsHeld}
 use Rattle.change.specs.Changes.{Change}
 use Rattle.change.proofs.Fair.{Sound, Fair, rewriteInside, rewritesRise, holeInside}
 use Rattle.change.proofs.Rounding.{down-whole, down-next, up-limit, sector-limit}
-use Rattle.fallocate.specs.Fallocate.{endRewritten, from, to, endSector, endStop, holesToAllocate, sumOf, fallocateChange}
+use Rattle.change.specs.Sweep.{sumOf}
+use Rattle.fallocate.specs.Fallocate.{endRewritten, from, to, endSector, endStop, holesToAllocate, fallocateChange}
 use Rattle.fallocate.proofs.Less.{between, clearOf, wholeItem, wholeSpan}
 use Rattle.fallocate.proofs.Holes.{end-order, end-whole, holes-whole, holes-free, holes-clear, holes-between, holes-apart, holes-sum}
 use Rattle.punch.proofs.Planned.{records-ranged, ground-items, ground-sound}

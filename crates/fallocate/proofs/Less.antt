@@ -17,7 +17,8 @@ use Rattle.item.specs.Items.{Fields, end}
 use Rattle.cut.proofs.Kept.{clear}
 use Rattle.change.specs.Preallocs.{Span}
 use Rattle.change.proofs.Fair.{holeFree, holesRise}
-use Rattle.fallocate.specs.Fallocate.{less, lessItems, sumOf}
+use Rattle.change.specs.Sweep.{sumOf}
+use Rattle.fallocate.specs.Fallocate.{less, lessItems}
 
 -- ---- offsets of a range
 

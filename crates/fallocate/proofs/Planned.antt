@@ -30,7 +30,8 @@ use Rattle.change.specs.Changes.{Change, wanted, planOf, changeRefusal, changed
 use Rattle.change.proofs.Fair.{Sound}
 use Rattle.punch.specs.Punch.{rangeRefusal}
 use Rattle.punch.proofs.Planned.{records-ranged}
-use Rattle.fallocate.specs.Fallocate.{from, to, endSector, endStop, itemRefusal, holesToAllocate, sumOf, fallocateChange, fallocateRefusal, fallocate}
+use Rattle.change.specs.Sweep.{sumOf}
+use Rattle.fallocate.specs.Fallocate.{from, to, endSector, endStop, itemRefusal, holesToAllocate, fallocateChange, fallocateRefusal, fallocate}
 use Rattle.fallocate.proofs.Less.{inside, over, within, within-facts, without-facts}
 use Rattle.fallocate.proofs.Holes.{hole-told}
 

@@ -23,6 +23,7 @@ use Rattle.change.specs.Preallocs.{Span, pieceLimit}
 use Rattle.change.specs.declared.Rewrite.{Rewrite}
 use Rattle.change.specs.Changes.{Change, changed}
 use Rattle.change.specs.Rewrites.{groundOf}
+use Rattle.change.specs.Sweep.{sumOf}
 use Rattle.punch.specs.Punch.{rangeRefusal}
 
 -- "rewrites the sector of an old end inside a sector, zeroing from the size on, when the range ends past the size,
@@ -68,10 +69,6 @@ module _ (size sector offset stop : ℕ) where
   holesToAllocate fs =
       cond (endRewritten sector size stop) (flatMap (less endSector endStop) (lessItems fs (record { start = from; length = to - from } ∷ [])))
       (lessItems fs (record { start = from; length = to - from } ∷ []))
-
-unfoldable pub sumOf : List Span → ℕ
-sumOf [] = 0
-sumOf (s ∷ ss) = s .length + sumOf ss
 
 -- "The new size is the old under keep-size, else the larger of old size and range end."
 abbrev pub newSize : Bool → (size stop : ℕ) → ℕ

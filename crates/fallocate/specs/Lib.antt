@@ -1,1 +1,2 @@
 pub mod Fallocate
+pub mod Raw

@@ -1,27 +1,27 @@
 -- What the calls of this crate's functions ask for and give. Assumes nothing.
 use mathlib.Core.Path.{_≡_, ap, ap₂, _∙_, sym}
-use mathlib.Core.Bool.{true, false}
+use mathlib.Core.Bool.{true}
 use mathlib.Core.List.{List, _++_, map}
-use Prim.Native.Nat.{ℕ, _<_, _≤_, _^_}
+use Prim.Native.Nat.{ℕ, _+_, _<_, _≤_, _^_}
 use native.Mathlib.Omega.{arith}
-use native.Mathlib.Nat.{zero-add}
-use lib.ListN.{length}
 use Rattle.records.specs.Stages.{every, pairs, stage}
 use Rattle.item.specs.Items.{Fields, items, ranged}
 use Rattle.table.specs.Rows.{rows}
 use Rattle.lists.specs.Lists.{rises}
 use Rattle.lists.proofs.Laws.{Kept}
-use Rattle.cut.specs.Pieces.{Piece, itemsOf, made, countedBytes}
-use Rattle.cut.specs.Edits.{edits}
+use Rattle.cut.specs.Pieces.{Piece, itemsOf, insertAll, made, countedBytes}
+use Rattle.cut.proofs.Inserts.{fresh}
+use Rattle.edits.specs.Pieced.{pieceItems}
+use Rattle.cut.specs.Edits.{Edit, edits}
 use Rattle.request.specs.declared.Volume.{Volume}
 use Rattle.request.specs.declared.File.{File}
 use Rattle.segment.specs.declared.Segment.{Segment}
 use Rattle.segment.specs.Segments.{pieces, segmentOf}
 use Rattle.refs.specs.Drops.{releases}
 use Rattle.refs.proofs.Drops.{held-items}
-use Rattle.plan.specs.Plans.{Add, Write}
-use Rattle.plan.specs.Outputs.{Outs, editBytes, refNumbers, addNumbers, writeNumbers}
-use Rattle.lines.specs.Lines.{lay, Laid}
+use Rattle.plan.specs.Plans.{Write}
+use Rattle.plan.specs.Outputs.{Outs, editBytes, refNumbers, writeNumbers}
+use Rattle.lines.specs.Lines.{Laid}
 use Rattle.lines.proofs.Loops.{laid-same}
 use Rattle.drops.specs.declared.Cut.{Cut}
 use Rattle.drops.specs.Dropped.{dropsIn}
@@ -33,13 +33,13 @@ use Rattle.change.proofs.Preallocs.{limit-whole}
 use Rattle.rewrites.specs.Raw.{lentGround}
 use Rattle.changing.specs.declared.Parts.{Parts}
 use Rattle.changing.specs.Raw.{Made, Ready}
-use Rattle.changing.specs.Sides.{frontNew, backNew, sides, joinedPieces, afterPieces, middle, cutOf, sharesOf, unrefsOf, bytesOf, addOf, writesOf, Writable}
-use Rattle.changing.proofs.Sides.{each-sides, adds-sides, writes-sides, none-preallocated}
+use Rattle.changing.specs.Sides.{frontNew, backNew, sides, joinedPieces, afterPieces, middle, cutOf, sharesOf, unrefsOf, bytesOf, writesOf, Writable}
+use Rattle.changing.proofs.Sides.{each-sides, writes-sides}
 use Rattle.changing.proofs.Planned.{ready, writable, shares-same, unrefs-same, releases-same, after-same}
-use Rattle.changing.proofs.Edited.{middle-rises, segment-rises, edits-same, bytes-same, bytes-below, after-kept}
+use Rattle.changing.proofs.Edited.{middle-rises, part-rises, edits-same, bytes-same, bytes-below, after-kept}
 use Rattle.laying.specs.declared.RefCounts.{RefCounts}
 use Rattle.laying.specs.declared.Edited.{Edited}
-use Rattle.laying.specs.Laid.{Started, planAt, RefsLaid, EditsLaid, PlanLaid}
+use Rattle.laying.specs.Laid.{Started, Pieced, planAt, editsAt, RefsLaid, EditsLaid, PlanLaid}
 
 module _ (v : Volume) (f : File) (c : RangeChange) (p : Parts) (list shared table : List ℕ) (st : Started v f c p list shared table) where
   pub ready-now : Ready v c p list
@@ -91,57 +91,48 @@ module _ (v : Volume) (f : File) (c : RangeChange) (p : Parts) (list shared tabl
     kept-pieces : Kept (f .number) (itemsOf (pieces list s seg))
     kept-pieces = rw same (kept-now .0)
 
-    pub rising : (pairs rises (middle (items list) s) ≡ true) × (pairs rises (segmentOf s seg) ≡ true)
-    rising = (middle-rises (items list) s (segmentOf s seg) (f .number) before-same, segment-rises (items list) s (segmentOf s seg) (f .number) kept-pieces)
+    module _ (ys : List Fields) (h : Pieced (items list) (itemsOf after) ys) where
+      news : every (fresh (itemsOf (pieces list s seg))) ys ≡ true
+      news = rw same (h .news)
+
+      pub rising : (pairs rises (middle (items list) s) ≡ true) × (pairs rises ys ≡ true) × (pairs rises (itemsOf (insertAll ys (map made (segmentOf s seg)))) ≡ true)
+      rising = (middle-rises (items list) s (segmentOf s seg) (f .number) before-same, h .rise, part-rises (items list) s (segmentOf s seg) (f .number) kept-pieces ys (h .rise) news)
 
     pub below : bytesOf (items list) s (segmentOf s seg) < 2 ^ 64
     below = bytes-below (items list) s (segmentOf s seg) (f .number) kept-pieces (rw same (kept-now .1))
 
     pub edits-laid :
-        (n b : ℕ) (e e′ : List ℕ)
-        → Laid (editBytes (f .number)) 71 0 (edits (middle (items list) s) (map made (segmentOf s seg))) e n e′
+        (numbers : List ℕ) (h : Pieced (items list) (itemsOf after) (pieceItems (f .number) (v .generation + 1) numbers)) (n b : ℕ) (e e′ : List ℕ)
+        → Laid (editBytes (f .number)) 71 0 (edits (middle (items list) s) (insertAll (pieceItems (f .number) (v .generation + 1) numbers) (map made (segmentOf s seg)))) e n e′
         → b ≡ bytesOf (items list) s (segmentOf s seg)
-        → EditsLaid (f .number) (planAt v f c p list shared table x y) (record { edits = n; bytes = b }) e e′
-    edits-laid n b e e′ l q =
+        → EditsLaid (f .number) (editsAt v f c p list shared table x y numbers) (planAt v f c p list shared table x y .bytes) (record { edits = n; bytes = b }) e e′
+    edits-laid numbers h n b e e′ l q =
+        let ys : List Fields = pieceItems (f .number) (v .generation + 1) numbers in
         record {
           edits =
               laid-same (editBytes (f .number)) 71 0 _ _ e n e′
-              (ap (λ (l : List Fields). edits l after) (held-items (items list) shared (st .shares))
-              ∙ ap (edits (items list)) (sym same)
-              ∙ edits-same (items list) s (segmentOf s seg) (f .number) kept-pieces before-same (m .good .order)) l;
+              (ap (λ (l : List Fields). edits l (insertAll ys after)) (held-items (items list) shared (st .shares))
+              ∙ ap (λ (ps : List Piece). edits (items list) (insertAll ys ps)) (sym same)
+              ∙ edits-same (items list) s (segmentOf s seg) (f .number) kept-pieces before-same (m .good .order) ys (h .rise) (h .olds) (news ys h)) l;
           bytes = q ∙ sym (bytes-same (items list) s (segmentOf s seg)) ∙ ap (λ (ps : List Piece). countedBytes (itemsOf ps)) same;
         }
 
   -- ---- the whole
 
   pub plan-laid :
-      (x y : ℕ) (r : RefCounts) (e : Edited) (a w : ℕ) (before after : Outs)
+      (x y : ℕ) (es : List Edit) (r : RefCounts) (e : Edited) (w : ℕ) (before after : Outs)
       → RefsLaid (planAt v f c p list shared table 0 0) r (before .shares) (before .unrefs) (before .releases) (after .shares) (after .unrefs) (after .releases)
-      → EditsLaid (f .number) (planAt v f c p list shared table x y) e (before .edits) (after .edits)
-      → Laid addNumbers 3 0 (sides (frontNew c p) (backNew c p) (addOf (v .sector) (c .front) x) (addOf (v .sector) (c .back) y)) (before .adds) a (after .adds)
+      → EditsLaid (f .number) es (planAt v f c p list shared table x y .bytes) e (before .edits) (after .edits)
       → Laid writeNumbers 4 0 (writesOf c p x y) (before .writes) w (after .writes)
-      → PlanLaid (f .number) (planAt v f c p list shared table x y)
-      (record { edits = e .edits; shares = r .shares; unrefs = r .unrefs; releases = r .releases; adds = a; writes = w; size = f .size; bytes = e .bytes; prealloc = false }) before after
-  plan-laid x y r e a w before after lr le la lw =
+      → PlanLaid (f .number) (planAt v f c p list shared table x y) es (record { refs = r; edits = e; writes = w }) before after
+  plan-laid x y es r e w before after lr le lw =
       let g : Ground = lentGround v f list shared table in
-      let pa : planAt v f c p list shared table x y .adds ≡ sides (frontNew c p) (backNew c p) (addOf (v .sector) (c .front) x) (addOf (v .sector) (c .back) y) = adds-sides g c (f .size) p (st .part) pieceLimit x y in
       let pw : planAt v f c p list shared table x y .writes ≡ writesOf c p x y =
       ap₂ (λ (l m : List Write). l ++ m) (each-sides g c (f .size) p (st .part) writeInPlace) (writes-sides g c (f .size) p (st .part) pieceLimit x y) in
-      let l1 : e .edits ≡ length (planAt v f c p list shared table x y .edits) = le .edits .lines ∙ zero-add _ in
-      let l2 : r .shares ≡ length (planAt v f c p list shared table x y .shares) = lr .shares .lines ∙ zero-add _ in
-      let l3 : r .unrefs ≡ length (planAt v f c p list shared table x y .unrefs) = lr .unrefs .lines ∙ zero-add _ in
-      let l4 : r .releases ≡ length (planAt v f c p list shared table x y .releases) = lr .releases .lines ∙ zero-add _ in
-      let l5 : a ≡ length (planAt v f c p list shared table x y .adds) = la .lines ∙ zero-add _ ∙ ap length (sym pa) in
-      let l6 : w ≡ length (planAt v f c p list shared table x y .writes) = lw .lines ∙ zero-add _ ∙ ap length (sym pw) in
-      let l7 : false ≡ planAt v f c p list shared table x y .prealloc = sym (none-preallocated g c (f .size) p (st .part) pieceLimit) in
       record {
-        «its-numbers» = λ i. record { edits = l1 i; shares = l2 i; unrefs = l3 i; releases = l4 i; adds = l5 i; writes = l6 i; size = f .size; bytes = le .bytes i; prealloc = l7 i };
-        edits = le .edits .output;
-        shares = lr .shares .output;
-        unrefs = lr .unrefs .output;
-        releases = lr .releases .output;
-        adds = la .output ∙ ap (λ (l : List Add). lay addNumbers 3 0 l (before .adds)) (sym pa);
-        writes = lw .output ∙ ap (λ (l : List Write). lay writeNumbers 4 0 l (before .writes)) (sym pw);
+        refs = record { shares = lr .shares; unrefs = lr .unrefs; releases = lr .releases };
+        edits = le;
+        writes = laid-same writeNumbers 4 0 _ _ (before .writes) w (after .writes) pw lw;
       }
 
   pub can-write : stage (rewriteRefusal (lentGround v f list shared table)) (changeOf c (f .size) .rewrites) ≡ 0 → Writable (c .front) (p .front) × Writable (c .back) (p .back)

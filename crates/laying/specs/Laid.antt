@@ -1,18 +1,25 @@
 -- A plan laid over the outputs of a call, as far as each has room for it.
+use mathlib.Core.Bool.{true}
 use mathlib.Core.List.{List}
 use mathlib.Core.Path.{_≡_}
 use Prim.Native.Nat.{ℕ, _+_, _<_, _≤_, _^_}
 use lib.ListN.{length}
-use Rattle.item.specs.Items.{items}
+use Rattle.records.specs.Stages.{every, pairs}
+use Rattle.item.specs.Items.{Fields, items}
+use Rattle.lists.specs.Lists.{rises}
+use Rattle.cut.specs.Pieces.{Piece, insertAll}
+use Rattle.cut.specs.Edits.{Edit, edits}
+use Rattle.cut.proofs.Inserts.{fresh}
+use Rattle.edits.specs.Pieced.{pieceItems}
 use Rattle.refs.specs.Drops.{held}
 use Rattle.request.specs.declared.Volume.{Volume}
 use Rattle.request.specs.declared.File.{File}
-use Rattle.request.specs.declared.Numbers.{Numbers}
-use Rattle.plan.specs.Plans.{Plan, numbers}
-use Rattle.plan.specs.Outputs.{Outs, editBytes, refNumbers, addNumbers, writeNumbers}
-use Rattle.lines.specs.Lines.{lay, Laid}
+use Rattle.plan.specs.Plans.{Plan}
+use Rattle.plan.specs.Outputs.{Outs, editBytes, refNumbers, writeNumbers}
+use Rattle.lines.specs.Lines.{Laid}
 use Rattle.change.specs.declared.RangeChange.{RangeChange}
-use Rattle.change.specs.Changes.{changeOf, planOf}
+use Rattle.change.specs.Changes.{changeOf, piecesAfter, planOf}
+use Rattle.change.specs.Rewrites.{itemsHeld}
 use Rattle.change.specs.Preallocs.{pieceLimit}
 use Rattle.change.proofs.Fair.{Fair}
 use Rattle.rewrites.specs.Raw.{lentGround}
@@ -21,6 +28,7 @@ use Rattle.changing.specs.Raw.{Parting}
 use Rattle.changing.specs.Sides.{frontNew, backNew, sides}
 use Rattle.laying.specs.declared.RefCounts.{RefCounts}
 use Rattle.laying.specs.declared.Edited.{Edited}
+use Rattle.laying.specs.declared.Counts.{Counts}
 
 -- a change of a file that passed its checks, with its sectors found, and a generation to come
 pub record Started (v : Volume) (f : File) (c : RangeChange) (p : Parts) (list shared table : List ℕ) : Type 0 where
@@ -34,6 +42,21 @@ pub record Started (v : Volume) (f : File) (c : RangeChange) (p : Parts) (list s
 abbrev pub planAt : Volume → File → RangeChange → Parts → (list shared table : List ℕ) → (x y : ℕ) → Plan
 planAt v f c p list shared table x y = planOf (lentGround v f list shared table) (changeOf c (f .size)) pieceLimit (sides (frontNew c p) (backNew c p) x y)
 
+-- the file's items of that plan, but for the pieces of holes
+abbrev pub afterAt : Volume → File → RangeChange → Parts → (list shared table : List ℕ) → (x y : ℕ) → List Piece
+afterAt v f c p list shared table x y = piecesAfter (lentGround v f list shared table) (changeOf c (f .size)) pieceLimit (sides (frontNew c p) (backNew c p) x y)
+
+-- the edits with the pieces of holes among them, whose adds are these numbers
+abbrev pub editsAt : Volume → File → RangeChange → Parts → (list shared table : List ℕ) → (x y : ℕ) → (pieces : List ℕ) → List Edit
+editsAt v f c p list shared table x y pieces =
+    edits (itemsHeld (held (items list) shared)) (insertAll (pieceItems (f .number) (v .generation + 1) pieces) (afterAt v f c p list shared table x y))
+
+-- items that rise, with keys that neither of two lists has
+pub record Pieced (before after ys : List Fields) : Type 0 where
+  pub rise : pairs rises ys ≡ true
+  pub olds : every (fresh before) ys ≡ true
+  pub news : every (fresh after) ys ≡ true
+
 -- ---- part by part
 
 pub record RefsLaid (plan : Plan) (n : RefCounts) (s u r s′ u′ r′ : List ℕ) : Type 0 where
@@ -41,16 +64,12 @@ pub record RefsLaid (plan : Plan) (n : RefCounts) (s u r s′ u′ r′ : List �
   pub unrefs : Laid refNumbers 2 0 (plan .unrefs) u (n .unrefs) u′
   pub releases : Laid refNumbers 2 0 (plan .releases) r (n .releases) r′
 
-pub record EditsLaid (file : ℕ) (plan : Plan) (n : Edited) (e e′ : List ℕ) : Type 0 where
-  pub edits : Laid (editBytes file) 71 0 (plan .edits) e (n .edits) e′
-  pub bytes : n .bytes ≡ plan .bytes
+pub record EditsLaid (file : ℕ) (es : List Edit) (total : ℕ) (n : Edited) (e e′ : List ℕ) : Type 0 where
+  pub edits : Laid (editBytes file) 71 0 es e (n .edits) e′
+  pub bytes : n .bytes ≡ total
 
--- the whole: its numbers, and each output
-pub record PlanLaid (file : ℕ) (plan : Plan) (n : Numbers) (before after : Outs) : Type 0 where
-  pub «its-numbers» : n ≡ numbers plan
-  pub edits : after .edits ≡ lay (editBytes file) 71 0 (plan .edits) (before .edits)
-  pub shares : after .shares ≡ lay refNumbers 2 0 (plan .shares) (before .shares)
-  pub unrefs : after .unrefs ≡ lay refNumbers 2 0 (plan .unrefs) (before .unrefs)
-  pub releases : after .releases ≡ lay refNumbers 2 0 (plan .releases) (before .releases)
-  pub adds : after .adds ≡ lay addNumbers 3 0 (plan .adds) (before .adds)
-  pub writes : after .writes ≡ lay writeNumbers 4 0 (plan .writes) (before .writes)
+-- a plan with these edits, but for its adds: its numbers, and each output
+pub record PlanLaid (file : ℕ) (plan : Plan) (es : List Edit) (n : Counts) (before after : Outs) : Type 0 where
+  pub refs : RefsLaid plan (n .refs) (before .shares) (before .unrefs) (before .releases) (after .shares) (after .unrefs) (after .releases)
+  pub edits : EditsLaid file es (plan .bytes) (n .edits) (before .edits) (after .edits)
+  pub writes : Laid writeNumbers 4 0 (plan .writes) (before .writes) (n .writes) (after .writes)

@@ -1,24 +1,19 @@
 // Refusals 26 and 27 in code: the places of new extents, and the room for a plan.
 use records::both;
 use records::either;
-use records::first;
 use records::sum_at_most;
 use records::sum_fits;
 use records::unless;
 use request::Numbers;
 ghost use mathlib.Core.Path.{_≡_};
 ghost use mathlib.Core.Bool.{true};
-ghost use mathlib.Core.List.{List};
 ghost use Prim.Native.Nat.{ℕ};
-ghost use lib.Dec.{eqb};
-ghost use lib.ListN.{length, drop};
-ghost use Rattle.records.specs.Stages.{unless, every, pairs};
+ghost use Rattle.records.specs.Stages.{unless, every};
 ghost use Rattle.table.specs.declared.Row.{Row};
 ghost use Rattle.table.specs.Rows.{rows, tableKept};
 ghost use Rattle.plan.specs.Plans.{Plan, numbers};
-ghost use Rattle.plan.specs.Places.{Wanted, clear, placeSound, placesSound};
+ghost use Rattle.plan.specs.Places.{clear, placeSound};
 ghost use Rattle.plan.specs.Outputs.{roomFor};
-ghost use Rattle.places.specs.Fits.{soundAt, apartAt};
 
 // Whether [a, a + m) and [b, b + n) share no byte.
 pub fn is_clear(a: u64, m: u64, b: u64, n: u64) -> bool
@@ -63,61 +58,6 @@ pub fn place_refusal(table: &[u64], start: u64, length: u64) -> u8
             both(sum_fits(start, length), place_clear(table, start, length)),
         ),
         26,
-    )
-}
-
-// Refusal 26 of each place by itself, for extents `each` long.
-fn each_refusal(table: &[u64], places: &[u64], each: u64) -> u8
-    requires { ⌜ tableKept (rows (now table)) ≡ true ⌝ }
-    ensures { λ r. ⌜ r ≡ unless (every (soundAt (rows (now (table .entry))) each) (now (places .entry))) 26 ⌝ }
-{
-    for i in 0..places.len() {
-        let why = place_refusal(table, places[i], each);
-        if why != 0 {
-            return why;
-        }
-    }
-    0
-}
-
-// Refusal 26 of one place against those from number `from` on.
-fn apart_refusal(places: &[u64], from: usize, start: u64, each: u64) -> u8
-    ensures { λ r. ⌜ r ≡ unless (every (apartAt each start) (drop from (now (places .entry)))) 26 ⌝ }
-{
-    for i in from..places.len() {
-        let why = unless(is_clear(start, each, places[i], each), 26);
-        if why != 0 {
-            return why;
-        }
-    }
-    0
-}
-
-// Refusal 26 of each two places.
-fn pairs_refusal(places: &[u64], each: u64) -> u8
-    ensures { λ r. ⌜ r ≡ unless (pairs (apartAt each) (now (places .entry))) 26 ⌝ }
-{
-    for i in 0..places.len() {
-        let why = apart_refusal(places, i + 1, places[i], each);
-        if why != 0 {
-            return why;
-        }
-    }
-    0
-}
-
-// Refusal 26 of the places of `wanted` new extents, each `each` long: a wrong number of places, or one that is not sound,
-// or two that meet.
-pub fn places_refusal(table: &[u64], places: &[u64], wanted: usize, each: u64) -> u8
-    requires { ⌜ tableKept (rows (now table)) ≡ true ⌝ }
-    ensures { λ r. ⌜ ((ws : List Wanted) → length ws ≡ wanted → every (λ (w : Wanted). eqb (w .length) each) ws ≡ true → r ≡ unless (placesSound (rows (now (table .entry))) (now (places .entry)) ws) 26) ⌝ }
-{
-    if places.len() != wanted {
-        return 26;
-    }
-    first(
-        each_refusal(table, places, each),
-        pairs_refusal(places, each),
     )
 }
 

@@ -1,5 +1,5 @@
 -- From the stages of a punch to its answer. Assumes nothing.
-use mathlib.Core.Path.{_≡_, refl, _∙_, sym}
+use mathlib.Core.Path.{_≡_, refl, ap, _∙_, sym}
 use mathlib.Core.Bool.{Bool, not}
 use mathlib.Core.List.{List}
 use mathlib.Core.Option.{none, some}
@@ -23,14 +23,33 @@ use Rattle.request.proofs.Stages.{Accepted, accepted}
 use Rattle.plan.specs.Plans.{Plan, refusedOr, orNothing}
 use Rattle.plan.specs.Outputs.{Rooms, Outs, Met}
 use Rattle.change.specs.declared.RangeChange.{RangeChange}
-use Rattle.change.specs.Preallocs.{pieceLimit}
+use Rattle.change.specs.declared.Fill.{Fill}
+use Rattle.change.specs.Preallocs.{Span, pieceLimit}
 use Rattle.change.specs.Rewrites.{groundOf}
 use Rattle.change.specs.Changes.{Change, changeOf, changed}
+use Rattle.change.specs.Sweep.{filledOf}
+use Rattle.change.proofs.Sweep.{punch-swept}
 use Rattle.ranges.specs.Raw.{Asked}
 use Rattle.punch.specs.Punch.{planPunch, rangeRefusal, punch, punchLent}
 use Rattle.punch.specs.Raw.{rangeLent}
 use Rattle.punch.proofs.Planned.{records-ranged, ground-items, ground-sound}
 use Rattle.punch.proofs.Fair.{asked, fair}
+
+-- a refusal, and what follows if there is none
+pub two-refused : (x y : ℕ) (o : Outcome Plan) → refusedOr x (refusedOr y o) ≡ refusedOr (first x y) o
+unfolding refusedOr first
+two-refused zero y o = refl
+two-refused (suc x) y o = refl
+
+pub refuses : (x : ℕ) (o : Outcome Plan) → (x ≡ 0 → ⊥) → refusedOr x o ≡ refused x
+unfolding refusedOr
+refuses zero o z = absurd (z refl)
+refuses (suc x) o z = refl
+
+pub passes : (x : ℕ) (o : Outcome Plan) → x ≡ 0 → refusedOr x o ≡ o
+unfolding refusedOr
+passes zero o z = refl
+passes (suc x) o z = absurd (omega (arith, z))
 
 module _ (v : Volume) (f : File) (r : Range) (list shared table : List ℕ) where
   -- the stages as the code groups them
@@ -69,36 +88,26 @@ module _ (v : Volume) (f : File) (r : Range) (list shared table : List ℕ) wher
   pub shares-many : Passed → length shared ≡ length (items list)
   shares-many p = eqb-true (length shared) (length (items list)) (both-left (eqb (length shared) (length (items list))) (every (λ (b : ℕ). leb b 1) shared) (p .accepted .shares))
 
+  -- a change that fills no hole
+  pub no-holes : (c : RangeChange) (w : Fill) → w ≡ record { from = 0; to = 0; size = f .size } → filledOf c w (items list) ≡ changeOf c (f .size)
+  no-holes c w e = rw e (ap (λ (hs : List Span). record { lo = c .lo; hi = c .hi; rewrites = changeOf c (f .size) .rewrites; holes = hs; size = f .size }) (punch-swept (c .lo) (c .hi) (items list)))
+
   -- the change that is asked for is fair
-  pub asked-now : Passed → (c : RangeChange) → some (changeOf c (f .size)) ≡ planPunch (items list) (f .size) (v .sector) (r .offset) (r .offset + r .length) → Asked v f c list shared table
-  asked-now p c e =
+  pub asked-now : Passed → (c : RangeChange) (w : Fill) → w ≡ record { from = 0; to = 0; size = f .size } → some (changeOf c (f .size)) ≡ planPunch (items list) (f .size) (v .sector) (r .offset) (r .offset + r .length) → Asked v f c w list shared table
+  asked-now p c w pw e =
       let a = p .accepted in
       let g = groundOf v f (items list) shared (rows table) in
       let s = ground-sound v f (items list) shared (rows table) a (records-ranged (items list) (p .records)) in
       record {
         fair =
-            fair g (items list) (ground-items v f (items list) shared (rows table) a) s (f .size) (r .offset) (r .offset + r .length) (changeOf c (f .size))
-            (asked (items list) (f .size) (v .sector) (r .offset) (r .offset + r .length) (changeOf c (f .size)) (sym e)) (p .limit);
+            rw (no-holes c w pw)
+            (fair g (items list) (ground-items v f (items list) shared (rows table) a) s (f .size) (r .offset) (r .offset + r .length) (changeOf c (f .size))
+            (asked (items list) (f .size) (v .sector) (r .offset) (r .offset + r .length) (changeOf c (f .size)) (sym e)) (p .limit));
         shares = shares-many p;
         sized = leb-true (length (items list)) 65536 (a .sized);
       }
 
   -- ---- the answer
-
-  two-refused : (x y : ℕ) (o : Outcome Plan) → refusedOr x (refusedOr y o) ≡ refusedOr (first x y) o
-  unfolding refusedOr first
-  two-refused zero y o = refl
-  two-refused (suc x) y o = refl
-
-  refuses : (x : ℕ) (o : Outcome Plan) → (x ≡ 0 → ⊥) → refusedOr x o ≡ refused x
-  unfolding refusedOr
-  refuses zero o z = absurd (z refl)
-  refuses (suc x) o z = refl
-
-  passes : (x : ℕ) (o : Outcome Plan) → x ≡ 0 → refusedOr x o ≡ o
-  unfolding refusedOr
-  passes zero o z = refl
-  passes (suc x) o z = absurd (omega (arith, z))
 
   module _ (places : List ℕ) (rooms : Rooms) where
     abbrev rest : Outcome Plan
@@ -116,8 +125,11 @@ module _ (v : Volume) (f : File) (r : Range) (list shared table : List ℕ) wher
     pub punch-nothing : rangeLent v f r list shared table ≡ 0 → none ≡ planPunch (items list) (f .size) (v .sector) (r .offset) (r .offset + r .length) → punchLent v f r list shared table places rooms ≡ nothing
     punch-nothing z e = whole ∙ passes _ rest z ∙ rw (← e) refl
 
-    pub punch-changed : rangeLent v f r list shared table ≡ 0 → (c : Change) → some c ≡ planPunch (items list) (f .size) (v .sector) (r .offset) (r .offset + r .length) → punchLent v f r list shared table places rooms ≡ changed (groundOf v f (items list) shared (rows table)) c pieceLimit places rooms
-    punch-changed z c e = whole ∙ passes _ rest z ∙ rw (← e) refl
+    pub punch-changed :
+        rangeLent v f r list shared table ≡ 0 → (c : RangeChange) (w : Fill) → w ≡ record { from = 0; to = 0; size = f .size }
+        → some (changeOf c (f .size)) ≡ planPunch (items list) (f .size) (v .sector) (r .offset) (r .offset + r .length)
+        → punchLent v f r list shared table places rooms ≡ changed (groundOf v f (items list) shared (rows table)) (filledOf c w (items list)) pieceLimit places rooms
+    punch-changed z c w pw e = whole ∙ passes _ rest z ∙ rw (← e, no-holes c w pw) refl
 
 pub met-nothing : (file : ℕ) (o : Outcome Plan) (before : Outs) → o ≡ nothing → Met file o Nothing before before
 met-nothing file o before e = rw e (record { answer = refl; outputs = refl })

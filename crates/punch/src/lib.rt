@@ -55,7 +55,7 @@ fn with_item(start: Start, offset: u64, item: Item) -> Start
 }
 
 // The first offset at or past `offset` that an item holds which is no hole; from the last record to the first.
-pub fn first_held(list: &[u8], offset: u64) -> Start
+fn first_held(list: &[u8], offset: u64) -> Start
     ensures { λ r. ⌜ offsetIn r ≡ firstHeld offset (items (now (list .entry))) ⌝ }
 {
     let mut start = Start {
@@ -175,7 +175,7 @@ pub enum PunchPlan {
 }
 
 // The port's `plan_punch`: from the first offset in the range that an item holds, if there is one.
-pub fn plan_punch(
+fn plan_punch(
     list: &[u8],
     shared: &[u8],
     size: u64,
@@ -242,6 +242,7 @@ pub fn punch_hole(
             v,
             f,
             c,
+            change::no_holes(f.size),
             list,
             shared,
             table,

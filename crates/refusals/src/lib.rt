@@ -91,7 +91,7 @@ pub fn change_refusal(
     if v.generation == 18446744073709551615 {
         return 13;
     }
-    let split = edits::splits_refusal(list, table, c.lo, c.hi);
+    let split = splits::splits_refusal(list, table, c.lo, c.hi);
     let rewrite = rewrites_refusal(v, f, c, list, shared, table);
     let share = shares_refusal(v, c, p, list, table);
     let drop = drops::drops_refusal(changing::cut_of(c, p), list, table);

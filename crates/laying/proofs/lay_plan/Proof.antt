@@ -1,41 +1,49 @@
-use Rattle.laying.proofs.Laying.{can-write, plan-laid}
 use denote.Ref.{now}
+use Rattle.laying.proofs.Laying.{can-write, plan-laid}
 use borrow.Author.Needs.{needs}
 use Rattle.laying.proofs.lay_plan.Statement.{statement}
 use Rattle.laying.proofs.lay_plan.Tie as tie
+use Rattle.laying.proofs.lay_plan.Reads as reads
+use Rattle.laying.proofs.lay_plan.Lts as lts
+use Rattle.changing.proofs.put_writes.Reads as put-writes-reads
+use Rattle.laying.proofs.lay_edits.Reads as lay-edits-reads
+use Rattle.laying.proofs.lay_refs.Reads as lay-refs-reads
 
+-- src/lib.rt:111:9
 lay-refs-requires : tie.Need-lay-refs-requires
 lay-refs-requires c κs = search needs
 
+-- src/lib.rt:112:9
 lay-edits-requires : tie.Need-lay-edits-requires
 lay-edits-requires c κs = search needs
 
-put-adds-requires : tie.Need-put-adds-requires
-put-adds-requires c κs = search needs
-
+-- src/lib.rt:113:9
 put-writes-requires : tie.Need-put-writes-requires
-put-writes-requires c κs = let a = c .before .before .before .before .before .before .before .before .before .before .before .before .before .before .before .before .before .before .before .before .before .before .before .before .before .before .before .before .args in let q = c .before .before .before .before .before .before .before .before .before .before .before .before .before .before .before .before .before .before .before .before .before .before .before .before .before .before .before .before .pre in can-write (a .v) (a .f) (a .c) (a .p) (now (a .list)) (now (a .shared)) (now (a .table)) (q .0) (q .1)
+put-writes-requires c κs = let a = c .before .before .before .before .before .before .before .before .before .before .before .before .before .before .before .before .before .before .before .before .before .before .before .before .args in let q = c .before .before .before .before .before .before .before .before .before .before .before .before .before .before .before .before .before .before .before .before .before .before .before .before .pre in can-write (a .v) (a .f) (a .c) (a .p) (now (a .list)) (now (a .shared)) (now (a .table)) (q .0) (q .1)
 
+-- src/lib.rt:91:1
 same-length : tie.Need-same-length
 same-length c = search needs
 
+-- src/lib.rt:91:1
 same-length-2 : tie.Need-same-length-2
 same-length-2 c = search needs
 
+-- src/lib.rt:91:1
 same-length-3 : tie.Need-same-length-3
 same-length-3 c = search needs
 
+-- src/lib.rt:91:1
 same-length-4 : tie.Need-same-length-4
 same-length-4 c = search needs
 
+-- src/lib.rt:91:1
 same-length-5 : tie.Need-same-length-5
 same-length-5 c = search needs
 
-same-length-6 : tie.Need-same-length-6
-same-length-6 c = search needs
-
+-- src/lib.rt:91:1
 returns : tie.Need-returns
-returns c = let a = c .before .before .before .before .before .before .before .before .before .before .before .before .before .before .before .before .before .before .before .before .before .before .before .before .before .before .before .before .before .before .before .args in let q = c .before .before .before .before .before .before .before .before .before .before .before .before .before .before .before .before .before .before .before .before .before .before .before .before .before .before .before .before .before .before .before .pre in plan-laid (a .v) (a .f) (a .c) (a .p) (now (a .list)) (now (a .shared)) (now (a .table)) (q .0) (a .x) (a .y) (c .before .before .before .before .before .before .before .before .before .before .before .before .before .before .before .before .before .before .lay-refs .result) (c .before .before .before .before .before .before .before .before .before .before .lay-edits .result) _ _ _ _ (c .before .before .before .before .before .before .before .before .before .before .before .before .before .before .before .before .before .before .lay-refs .ensures) (c .before .before .before .before .before .before .before .before .before .before .lay-edits .ensures) (c .before .before .before .before .before .before .put-adds .ensures) (c .before .before .put-writes .ensures)
+returns c = let a = c .before .before .before .before .before .before .before .before .before .before .before .before .before .before .before .before .before .before .before .before .before .before .before .before .before .before .before .args in let q = c .before .before .before .before .before .before .before .before .before .before .before .before .before .before .before .before .before .before .before .before .before .before .before .before .before .before .before .pre in plan-laid (a .v) (a .f) (a .c) (a .p) (now (a .list)) (now (a .shared)) (now (a .table)) (q .0) (a .x) (a .y) _ (c .before .before .before .before .before .before .before .before .before .before .before .before .before .before .lay-refs .result) (c .before .before .before .before .before .before .lay-edits .result) _ _ _ (c .before .before .before .before .before .before .before .before .before .before .before .before .before .before .lay-refs .ensures) (c .before .before .before .before .before .before .lay-edits .ensures) (c .before .before .put-writes .ensures)
 
 pub lay-plan-spec : {M : Type 1} → statement M
 lay-plan-spec =
@@ -43,12 +51,10 @@ lay-plan-spec =
     (tie.spec
     lay-refs-requires
     lay-edits-requires
-    put-adds-requires
     put-writes-requires
     same-length
     same-length-2
     same-length-3
     same-length-4
     same-length-5
-    same-length-6
     returns)

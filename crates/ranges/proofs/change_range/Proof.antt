@@ -1,48 +1,67 @@
+use denote.Ref.{now}
 use Rattle.ranges.proofs.Finish.{started, refused-told, planned-told, met-refused}
 use Rattle.ranges.specs.Raw.{draftSaid}
-use denote.Ref.{now}
+use Rattle.item.specs.Items.{items}
 use native.Mathlib.Omega.{arith}
 use mathlib.Core.Path.{_∙_, sym, ap}
 use borrow.Author.Needs.{needs}
 use Rattle.ranges.proofs.change_range.Statement.{statement}
 use Rattle.ranges.proofs.change_range.Tie as tie
+use Rattle.ranges.proofs.change_range.Reads as reads
+use Rattle.ranges.proofs.change_range.Lts as lts
+use Rattle.changing.proofs.parts_of.Reads as parts-of-reads
+use Rattle.ranges.proofs.draft_change.Reads as draft-change-reads
+use Rattle.ranges.proofs.finish_change.Reads as finish-change-reads
 
+-- src/lib.rt:334:9
 parts-of-requires : tie.Need-parts-of-requires
 parts-of-requires c κs = search needs
 
+-- src/lib.rt:335:9
 draft-change-requires : tie.Need-draft-change-requires
 draft-change-requires c κs = search needs
 
+-- src/lib.rt:337:24
 enum-known-draft : tie.Need-enum-known-draft
 enum-known-draft c = search needs
 
+-- src/lib.rt:338:21
 enum-known-draft-2 : tie.Need-enum-known-draft-2
 enum-known-draft-2 c = search needs
 
+-- src/lib.rt:338:27
 finish-change-requires : tie.Need-finish-change-requires
-finish-change-requires c κs = let a = c .before .before .before .before .before .before .before .before .before .before .before .before .before .before .before .before .before .before .before .before .before .args in let q = c .before .before .before .before .before .before .before .before .before .before .before .before .before .before .before .before .before .before .before .before .before .pre in let n = c .before .before .before .before .before .before .before .draft2 .given .0 .0 in let d = ap draftSaid (sym (c .before .before .before .before .before .before .before .draft2 .given .1)) ∙ c .before .before .before .before .before .before .before .before .before .draft-change .ensures in let z = planned-told (a .v) (a .f) (a .c) (c .before .before .before .before .before .before .before .before .before .before .parts-of .result) (now (a .list)) (now (a .shared)) (now (a .table)) n d in record { started = started (a .v) (a .f) (a .c) (c .before .before .before .before .before .before .before .before .before .before .parts-of .result) (now (a .list)) (now (a .shared)) (now (a .table)) q (c .before .before .before .before .before .before .before .before .before .before .parts-of .ensures) (omega (arith, c .before .before .before .before .before .before .before .before .before .before .before .before .before .before .before .before .before .before .before .before .before .good .0)) z; none = z; needs = d }
+finish-change-requires c κs = let a = c .before .before .before .before .before .before .before .before .before .before .before .before .before .before .before .before .before .before .before .before .before .args in let q = c .before .before .before .before .before .before .before .before .before .before .before .before .before .before .before .before .before .before .before .before .before .pre in let n = c .before .before .before .before .before .before .before .draft2 .given .0 .0 in let d = ap (draftSaid (items (now (a .list)))) (sym (c .before .before .before .before .before .before .before .draft2 .given .1)) ∙ c .before .before .before .before .before .before .before .before .before .draft-change .ensures in let z = planned-told (a .v) (a .f) (a .c) (a .w) (c .before .before .before .before .before .before .before .before .before .before .parts-of .result) (now (a .list)) (now (a .shared)) (now (a .table)) n d in record { fair = q .fair; started = started (a .v) (a .f) (a .c) (a .w) (c .before .before .before .before .before .before .before .before .before .before .parts-of .result) (now (a .list)) (now (a .shared)) (now (a .table)) q (c .before .before .before .before .before .before .before .before .before .before .parts-of .ensures) (omega (arith, c .before .before .before .before .before .before .before .before .before .before .before .before .before .before .before .before .before .before .before .before .before .good .0)) z; none = z; needs = d }
 
+-- src/lib.rt:315:1
 returns : tie.Need-returns
-returns c = let a = c .before .before .before .before .before .before .before .before .before .before .before .before .before .before .before .args in let d = ap draftSaid (sym (c .before .draft .given .1)) ∙ c .before .before .before .draft-change .ensures in met-refused _ _ _ _ (refused-told (a .v) (a .f) (a .c) (c .before .before .before .before .parts-of .result) (now (a .list)) (now (a .shared)) (now (a .table)) _ d _ _)
+returns c = let a = c .before .before .before .before .before .before .before .before .before .before .before .before .before .before .before .args in let d = ap (draftSaid (items (now (a .list)))) (sym (c .before .draft .given .1)) ∙ c .before .before .before .draft-change .ensures in met-refused _ _ _ _ (refused-told (a .v) (a .f) (a .c) (a .w) (c .before .before .before .before .parts-of .result) (now (a .list)) (now (a .shared)) (now (a .table)) _ d _ _)
 
+-- src/lib.rt:315:1
 same-length : tie.Need-same-length
 same-length c = search needs
 
+-- src/lib.rt:315:1
 same-length-2 : tie.Need-same-length-2
 same-length-2 c = search needs
 
+-- src/lib.rt:315:1
 same-length-3 : tie.Need-same-length-3
 same-length-3 c = search needs
 
+-- src/lib.rt:315:1
 same-length-4 : tie.Need-same-length-4
 same-length-4 c = search needs
 
+-- src/lib.rt:315:1
 same-length-5 : tie.Need-same-length-5
 same-length-5 c = search needs
 
+-- src/lib.rt:315:1
 same-length-6 : tie.Need-same-length-6
 same-length-6 c = search needs
 
+-- src/lib.rt:315:1
 returns-2 : tie.Need-returns-2
 returns-2 c = search needs
 

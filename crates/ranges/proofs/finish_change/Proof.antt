@@ -1,50 +1,53 @@
-use Rattle.ranges.proofs.Finish.{passed, finish-refused, finish-planned}
 use denote.Ref.{now}
+use Rattle.ranges.proofs.Finish.{ends-now, adds-many, finish-refused, places-sound, rooms-fit, finish-planned}
+use Rattle.plan.specs.Outputs.{outs}
 use borrow.Author.Needs.{needs}
 use Rattle.ranges.proofs.finish_change.Statement.{statement}
 use Rattle.ranges.proofs.finish_change.Tie as tie
+use Rattle.ranges.proofs.finish_change.Reads as reads
+use Rattle.ranges.proofs.finish_change.Lts as lts
+use Rattle.ranges.proofs.finish_refusal.Reads as finish-refusal-reads
+use Rattle.ranges.proofs.write_plan.Reads as write-plan-reads
 
+-- src/lib.rt:277:9
 finish-refusal-requires : tie.Need-finish-refusal-requires
-finish-refusal-requires c κs = c .before .before .before .before .before .before .before .before .before .before .pre .started .fair .sound .table
+finish-refusal-requires c κs = let a = c .before .before .before .before .before .before .before .before .before .before .args in let q = c .before .before .before .before .before .before .before .before .before .before .pre in (ends-now (a .v) (a .f) (a .c) (a .w) (a .p) (now (a .list)) (now (a .shared)) (now (a .table)) (q .fair) (q .started .shares), q .fair .sound .table, adds-many (a .v) (a .f) (a .c) (a .w) (a .p) (a .n) (now (a .list)) (now (a .shared)) (now (a .table)) (now (a .places)) q)
 
+-- src/lib.rt:290:9
 returns : tie.Need-returns
-returns c = let a = c .before .before .before .before .before .before .before .before .before .before .before .before .args in finish-refused (a .v) (a .f) (a .c) (a .p) (a .n) (now (a .list)) (now (a .shared)) (now (a .table)) (now (a .places)) (c .before .before .before .before .before .before .before .before .before .before .before .before .pre) _ _ (c .before .finish-refusal .ensures) (c .if1 .taken)
+returns c = let a = c .before .before .before .before .before .before .before .before .before .before .before .before .args in finish-refused (a .v) (a .f) (a .c) (a .w) (a .p) (a .n) (now (a .list)) (now (a .shared)) (now (a .table)) (now (a .places)) (c .before .before .before .before .before .before .before .before .before .before .before .before .pre) _ _ (c .before .finish-refusal .ensures) (c .if1 .taken)
 
-place-at-requires : tie.Need-place-at-requires
-place-at-requires c κs = search needs
+-- src/lib.rt:293:5
+write-plan-requires : tie.Need-write-plan-requires
+write-plan-requires c κs = let a = c .before .before .before .before .before .before .before .before .before .before .before .before .before .before .before .before .before .before .before .args in let q = c .before .before .before .before .before .before .before .before .before .before .before .before .before .before .before .before .before .before .before .pre in let o = outs (now (a .edits)) (now (a .shares)) (now (a .unrefs)) (now (a .releases)) (now (a .adds)) (now (a .writes)) in (q, places-sound (a .v) (a .f) (a .c) (a .w) (a .p) (a .n) (now (a .list)) (now (a .shared)) (now (a .table)) (now (a .places)) q o _ (c .before .before .before .before .before .before .before .before .finish-refusal .ensures) (c .before .before .before .before .before .before .before .if1 .left), rooms-fit (a .v) (a .f) (a .c) (a .w) (a .p) (a .n) (now (a .list)) (now (a .shared)) (now (a .table)) (now (a .places)) q o _ (c .before .before .before .before .before .before .before .before .finish-refusal .ensures) (c .before .before .before .before .before .before .before .if1 .left))
 
-front-new-requires : tie.Need-front-new-requires
-front-new-requires c κs = search needs
-
-counted-requires : tie.Need-counted-requires
-counted-requires c κs = search needs
-
-place-at-requires-2 : tie.Need-place-at-requires-2
-place-at-requires-2 c κs = search needs
-
-lay-plan-requires : tie.Need-lay-plan-requires
-lay-plan-requires c κs = let a = c .before .before .before .before .before .before .before .before .before .before .before .before .before .before .before .before .before .before .before .before .before .before .before .args in let q = c .before .before .before .before .before .before .before .before .before .before .before .before .before .before .before .before .before .before .before .before .before .before .before .pre in (q .started, passed (a .v) (a .f) (a .c) (a .p) (now (a .list)) (now (a .shared)) (now (a .table)) (q .none) .1)
-
+-- src/lib.rt:256:1
 same-length : tie.Need-same-length
 same-length c = search needs
 
+-- src/lib.rt:256:1
 same-length-2 : tie.Need-same-length-2
 same-length-2 c = search needs
 
+-- src/lib.rt:256:1
 same-length-3 : tie.Need-same-length-3
 same-length-3 c = search needs
 
+-- src/lib.rt:256:1
 same-length-4 : tie.Need-same-length-4
 same-length-4 c = search needs
 
+-- src/lib.rt:256:1
 same-length-5 : tie.Need-same-length-5
 same-length-5 c = search needs
 
+-- src/lib.rt:256:1
 same-length-6 : tie.Need-same-length-6
 same-length-6 c = search needs
 
+-- src/lib.rt:256:1
 returns-2 : tie.Need-returns-2
-returns-2 c = let a = c .before .before .before .before .before .before .before .before .before .before .before .before .before .before .before .before .before .before .before .before .before .before .before .before .before .before .before .before .before .before .before .before .before .before .before .before .args in finish-planned (a .v) (a .f) (a .c) (a .p) (a .n) (now (a .list)) (now (a .shared)) (now (a .table)) (now (a .places)) (c .before .before .before .before .before .before .before .before .before .before .before .before .before .before .before .before .before .before .before .before .before .before .before .before .before .before .before .before .before .before .before .before .before .before .before .before .pre) _ _ (c .before .before .before .before .before .before .before .before .before .before .before .before .before .before .before .before .before .before .before .before .before .before .before .before .before .finish-refusal .ensures) (c .before .before .before .before .before .before .before .before .before .before .before .before .before .before .before .before .before .before .before .before .before .before .before .before .if1 .left) _ _ _ _ _ _ (c .before .before .before .before .before .before .before .before .before .before .before .before .before .before .before .before .before .before .before .before .before .before .place-at .ensures) (c .before .before .before .before .before .before .before .before .before .before .before .before .before .before .before .before .before .before .before .before .before .front-new .ensures) (c .before .before .before .before .before .before .before .before .before .before .before .before .before .before .before .before .before .before .before .before .counted .ensures) (c .before .before .before .before .before .before .before .before .before .before .before .before .before .before .before .before .before .before .before .place-at2 .ensures) (c .before .before .before .before .before .before .before .before .before .before .before .before .lay-plan .ensures)
+returns-2 c = let a = c .before .before .before .before .before .before .before .before .before .before .before .before .before .before .before .before .before .before .before .before .before .before .before .before .before .before .before .before .before .before .before .before .args in finish-planned (a .v) (a .f) (a .c) (a .w) (a .p) (a .n) (now (a .list)) (now (a .shared)) (now (a .table)) (now (a .places)) (c .before .before .before .before .before .before .before .before .before .before .before .before .before .before .before .before .before .before .before .before .before .before .before .before .before .before .before .before .before .before .before .before .pre) (outs (now (a .edits)) (now (a .shares)) (now (a .unrefs)) (now (a .releases)) (now (a .adds)) (now (a .writes))) _ (c .before .before .before .before .before .before .before .before .before .before .before .before .before .before .before .before .before .before .before .before .before .finish-refusal .ensures) (c .before .before .before .before .before .before .before .before .before .before .before .before .before .before .before .before .before .before .before .before .if1 .left) _ (c .before .before .before .before .before .before .before .before .before .before .before .before .write-plan .ensures)
 
 pub finish-change-spec : {M : Type 1} → statement M
 finish-change-spec =
@@ -52,11 +55,7 @@ finish-change-spec =
     (tie.spec
     finish-refusal-requires
     returns
-    place-at-requires
-    front-new-requires
-    counted-requires
-    place-at-requires-2
-    lay-plan-requires
+    write-plan-requires
     same-length
     same-length-2
     same-length-3

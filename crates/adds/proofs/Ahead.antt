@@ -1,0 +1,160 @@
+-- Loops over places along a walk: the adds that are ahead. Assumes nothing.
+use mathlib.Core.Path.{_≡_, refl, ap, _∙_, sym}
+use mathlib.Core.Bool.{Bool, true, _&&_}
+use mathlib.Core.List.{List, [], _∷_, _++_, map}
+use Prim.Native.Nat.{ℕ, _+_, _≤_, _<_}
+use native.Mathlib.Omega.{arith}
+use native.Mathlib.Numerals.{add-one}
+use lib.ListN.{length, getD, drop, length-drop, length-map, drop-of-length-le}
+use lib.Seq.{drop-cons}
+use borrow.Author.Tests.{eq-eqb}
+use Rattle.records.specs.Stages.{unless, first, every, pairs}
+use Rattle.records.proofs.Tests.{first-go, first-stop, first-unless}
+use Rattle.item.specs.Items.{Fields}
+use Rattle.table.specs.declared.Row.{Row}
+use Rattle.plan.specs.Plans.{Add}
+use Rattle.plan.specs.Places.{Wanted, placed, placeSound, placesApart, placesSound}
+use Rattle.plan.specs.Outputs.{addNumbers}
+use Rattle.lines.specs.Lines.{Laid}
+use Rattle.lines.proofs.Laws.{Going, going-first, going-turn, going-done}
+use Rattle.lines.proofs.Loops.{going-length}
+use Rattle.change.specs.Preallocs.{Span}
+use Rattle.holes.specs.declared.NewExtents.{NewExtents}
+use Rattle.holes.specs.declared.Cursor.{Cursor}
+use Rattle.holes.specs.declared.Step.{Step}
+use Rattle.holes.specs.Walk.{left, wishes, Walked}
+use Rattle.holes.proofs.Walking.{left-all, walked-cons}
+use Rattle.adds.specs.Wishes.{wantedOf}
+use Rattle.adds.proofs.Keys.{placed-most}
+
+module _ (w : NewExtents) (fs : List Fields) (ps : List ℕ) where
+  -- the adds from place n on, at a walk behind those before them
+  abbrev pub ahead : ℕ → Cursor → List Add
+  ahead n c = placed (drop n ps) (map wantedOf (left w fs c))
+
+  -- as many extents are left as places
+  abbrev pub Even : ℕ → Cursor → Type 0
+  Even n c = length (left w fs c) ≡ length (drop n ps)
+
+  -- the add of place n and a step
+  abbrev pub addOf : ℕ → Step → Add
+  addOf n s = record { start = getD ps n 0; length = s .length; key = s .start }
+
+  -- a step with a place left
+  module _ (n : ℕ) (c : Cursor) (s : Step) (even : Even n c) (h : n < length ps) (k : Walked w fs c s) where
+    places-cons : drop n ps ≡ getD ps n 0 ∷ drop (n + 1) ps
+    places-cons = rw add-one (drop-cons ps n 0 h)
+
+    step-cons : left w fs c ≡ record { start = s .start; length = s .length } ∷ left w fs (s .after)
+    step-cons = walked-cons w fs c s k (omega (arith, even, length-drop n ps))
+
+    pub even-next : Even (n + 1) (s .after)
+    even-next = omega (arith, even, ap (λ (l : List Span). length l) step-cons, ap (λ (l : List ℕ). length l) places-cons)
+
+    pub ahead-cons : ahead n c ≡ addOf n s ∷ ahead (n + 1) (s .after)
+    unfolding placed
+    ahead-cons = rw (step-cons, places-cons) refl
+
+  -- at the start all are ahead, and past the places none
+  pub ahead-all : (c : Cursor) → c ≡ record { rest = record { start = 0; stop = 0 }; next = 0 } → ahead 0 c ≡ placed ps (map wantedOf (wishes w fs))
+  ahead-all c e = ap (λ (l : List Span). placed ps (map wantedOf l)) (left-all w fs c e)
+
+  pub even-all : (c : Cursor) → c ≡ record { rest = record { start = 0; stop = 0 }; next = 0 } → length (wishes w fs) ≡ length ps → Even 0 c
+  even-all c e h = ap (λ (l : List Span). length l) (left-all w fs c e) ∙ h
+
+  pub ahead-none : (n : ℕ) (c : Cursor) → length ps ≤ n → ahead n c ≡ []
+  unfolding placed
+  ahead-none n c h = rw (drop-of-length-le ps h) refl
+
+  -- ---- a loop with refusal 26: what is ahead decides
+
+  pub record Testing (test : List Add → Bool) (whole n : ℕ) (c : Cursor) : Type 0 where
+    pub even : Even n c
+    pub told : unless (test (ahead n c)) 26 ≡ whole
+
+  -- at the start
+  pub testing-all : (test : List Add → Bool) (c : Cursor) → c ≡ record { rest = record { start = 0; stop = 0 }; next = 0 } → length (wishes w fs) ≡ length ps
+      → Testing test (unless (test (placed ps (map wantedOf (wishes w fs)))) 26) 0 c
+  testing-all test c e h = record { even = even-all c e h; told = ap (λ (l : List Add). unless (test l) 26) (ahead-all c e) }
+
+  -- a turn: x refuses the first add ahead; b is its test, of itself and those behind it
+  module _ (test : List Add → Bool) (b : Add → List Add → Bool) (cons : (a : Add) (l : List Add) → test (a ∷ l) ≡ (b a l && test l)) (whole n : ℕ) (c : Cursor) (s : Step)
+      (t : Testing test whole n c) (h : n < length ps) (k : Walked w fs c s) (x : ℕ) (p : x ≡ unless (b (addOf n s) (ahead (n + 1) (s .after))) 26) where
+    told-cons : whole ≡ first x (unless (test (ahead (n + 1) (s .after))) 26)
+    told-cons =
+        sym (t .told) ∙ ap (λ (l : List Add). unless (test l) 26) (ahead-cons n c s (t .even) h k)
+        ∙ rw (cons (addOf n s) (ahead (n + 1) (s .after)), p) (sym (first-unless (b (addOf n s) (ahead (n + 1) (s .after))) (test (ahead (n + 1) (s .after))) 26 (λ z. omega arith)))
+
+    pub testing-turn : x ≡ 0 → Testing test whole (n + 1) (s .after)
+    testing-turn z = record { even = even-next n c s (t .even) h k; told = sym (told-cons ∙ first-go x _ z) }
+
+    pub testing-stop : (x ≡ 0 → ⊥) → x ≡ whole
+    testing-stop z = first-stop x _ z ∙ sym told-cons
+
+  -- its end, for a test that an empty list passes
+  pub testing-done : (test : List Add → Bool) (whole n : ℕ) (c : Cursor) → Testing test whole n c → length ps ≤ n → test [] ≡ true → 0 ≡ whole
+  testing-done test whole n c t h e = sym (rw (ahead-none n c h, e) refl) ∙ t .told
+
+  -- ---- the loop that writes the adds
+
+  -- all of them
+  abbrev all : List Add
+  all = placed ps (map wantedOf (wishes w fs))
+
+  -- those ahead, appended to the output as it is, give all
+  pub record Adding (out₀ : List ℕ) (n : ℕ) (c : Cursor) (m : ℕ) (out : List ℕ) : Type 0 where
+    pub even : Even n c
+    pub going : Going addNumbers 3 0 all out₀ m (ahead n c) out
+
+  pub adding-all : (c : Cursor) (out : List ℕ) → c ≡ record { rest = record { start = 0; stop = 0 }; next = 0 } → length (wishes w fs) ≡ length ps → Adding out 0 c 0 out
+  adding-all c out e h = record { even = even-all c e h; going = rw (ahead-all c e) (going-first addNumbers 3 0 all out) }
+
+  module _ (out₀ : List ℕ) (n : ℕ) (c : Cursor) (m : ℕ) (out : List ℕ) (g : Adding out₀ n c m out) where
+    -- a turn
+    module _ (s : Step) (h : n < length ps) (k : Walked w fs c s) where
+      here : Going addNumbers 3 0 all out₀ m ((addOf n s ∷ []) ++ ahead (n + 1) (s .after)) out
+      here = rw (ahead-cons n c s (g .even) h k) at (g .going)
+
+      -- there are at most as many as places
+      pub adding-room : m + 1 ≤ length ps
+      adding-room = omega (arith, here .lines, placed-most ps (map wantedOf (wishes w fs)))
+
+      pub adding-turn : (m′ : ℕ) (out′ : List ℕ) → Laid addNumbers 3 m (addOf n s ∷ []) out m′ out′ → Adding out₀ (n + 1) (s .after) m′ out′
+      adding-turn m′ out′ l =
+          record {
+            even = even-next n c s (g .even) h k;
+            going = going-turn addNumbers 3 0 all out₀ m (addOf n s ∷ []) (ahead (n + 1) (s .after)) out m′ out′ here l;
+          }
+
+    pub adding-done : length ps ≤ n → Laid addNumbers 3 0 all out₀ m out
+    adding-done h = going-done addNumbers 3 0 all out₀ m out (rw (ahead-none n c h) at (g .going))
+
+    pub adding-length : length out ≡ length out₀
+    adding-length = going-length addNumbers 3 (omega arith) (λ a. refl) 0 all out₀ m (ahead n c) out (g .going)
+
+-- the tests of a first add and those behind it
+pub every-cons : (p : Add → Bool) (a : Add) (l : List Add) → every p (a ∷ l) ≡ (p a && every p l)
+unfolding every
+every-cons p a l = refl
+
+pub pairs-cons : (p : Add → Add → Bool) (a : Add) (l : List Add) → pairs p (a ∷ l) ≡ (every (p a) l && pairs p l)
+unfolding pairs
+pairs-cons p a l = refl
+
+pub every-none : (p : Add → Bool) → every p [] ≡ true
+unfolding every
+every-none p = refl
+
+pub pairs-none : (p : Add → Add → Bool) → pairs p [] ≡ true
+unfolding pairs
+pairs-none p = refl
+
+-- ---- all of refusal 26, where the number of places is right
+pub places-right : (rows : List Row) (ps : List ℕ) (ss : List Span) (x y r : ℕ) → length ss ≡ length ps
+    → x ≡ unless (every (placeSound rows) (placed ps (map wantedOf ss))) 26 → y ≡ unless (pairs placesApart (placed ps (map wantedOf ss))) 26 → r ≡ first x y
+    → r ≡ unless (placesSound rows ps (map wantedOf ss)) 26
+unfolding placesSound
+places-right rows ps ss x y r l p q e =
+    let ws : List Wanted = map wantedOf ss in
+    e ∙ rw (p, q, eq-eqb (length ps) (length ws) (sym (length-map ss wantedOf ∙ l)))
+    (first-unless (every (placeSound rows) (placed ps ws)) (pairs placesApart (placed ps ws)) 26 (λ z. omega arith))

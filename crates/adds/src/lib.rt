@@ -1,0 +1,113 @@
+// The places of new extents in code: refusal 26, and the adds.
+use holes::Cursor;
+use holes::NewExtents;
+use records::first;
+use records::unless;
+ghost use mathlib.Core.Path.{_≡_};
+ghost use mathlib.Core.Bool.{true};
+ghost use mathlib.Core.List.{map};
+ghost use Prim.Native.Nat.{_≤_};
+ghost use lib.ListN.{length, drop};
+ghost use Rattle.records.specs.Stages.{unless, every, pairs};
+ghost use Rattle.item.specs.Items.{items};
+ghost use Rattle.table.specs.Rows.{rows, tableKept};
+ghost use Rattle.plan.specs.Places.{placed, placeSound, placesApart, placesSound};
+ghost use Rattle.plan.specs.Outputs.{addNumbers};
+ghost use Rattle.lines.specs.Lines.{Laid};
+ghost use Rattle.holes.specs.Walk.{Ends, wishes, left};
+ghost use Rattle.adds.specs.Wishes.{wantedOf, addAt};
+
+// Refusal 26 of each place by itself.
+fn each_refusal(w: NewExtents, list: &[u8], table: &[u64], places: &[u64]) -> u8
+    requires { ⌜ Ends (items (now list)) × (tableKept (rows (now table)) ≡ true) × (length (wishes w (items (now list))) ≡ length (now places)) ⌝ }
+    ensures { λ r. ⌜ r ≡ unless (every (placeSound (rows (now (table .entry)))) (placed (now (places .entry)) (map wantedOf (wishes w (items (now (list .entry))))))) 26 ⌝ }
+{
+    let mut c = holes::walk_start();
+    for n in 0..places.len() {
+        let step = holes::next_piece(w, list, c);
+        let why = places::place_refusal(table, places[n], step.length);
+        if why != 0 {
+            return why;
+        }
+        c = step.after;
+    }
+    0
+}
+
+// Refusal 26 of one extent against the places from number `from` on; c is the walk before their extents.
+fn apart_refusal(
+    w: NewExtents,
+    list: &[u8],
+    places: &[u64],
+    from: usize,
+    c: Cursor,
+    start: u64,
+    size: u64,
+) -> u8
+    requires { ⌜ Ends (items (now list)) × (length (left w (items (now list)) c) ≡ length (drop from (now places))) ⌝ }
+    ensures { λ r. ⌜ r ≡ unless (every (placesApart (addAt start size)) (placed (drop from (now (places .entry))) (map wantedOf (left w (items (now (list .entry))) c)))) 26 ⌝ }
+{
+    let mut c = c;
+    for n in from..places.len() {
+        let step = holes::next_piece(w, list, c);
+        let why = unless(places::is_clear(start, size, places[n], step.length), 26);
+        if why != 0 {
+            return why;
+        }
+        c = step.after;
+    }
+    0
+}
+
+// Refusal 26 of each two places.
+fn pairs_refusal(w: NewExtents, list: &[u8], places: &[u64]) -> u8
+    requires { ⌜ Ends (items (now list)) × (length (wishes w (items (now list))) ≡ length (now places)) ⌝ }
+    ensures { λ r. ⌜ r ≡ unless (pairs placesApart (placed (now (places .entry)) (map wantedOf (wishes w (items (now (list .entry))))))) 26 ⌝ }
+{
+    let mut c = holes::walk_start();
+    for n in 0..places.len() {
+        let step = holes::next_piece(w, list, c);
+        let why = apart_refusal(w, list, places, n + 1, step.after, places[n], step.length);
+        if why != 0 {
+            return why;
+        }
+        c = step.after;
+    }
+    0
+}
+
+// Refusal 26 of the places of new extents, `wanted` in number: a wrong number of places, or one that is not sound, or two
+// that meet.
+pub fn places_refusal(
+    w: NewExtents,
+    wanted: usize,
+    list: &[u8],
+    table: &[u64],
+    places: &[u64],
+) -> u8
+    requires { ⌜ Ends (items (now list)) × (tableKept (rows (now table)) ≡ true) × (length (wishes w (items (now list))) ≡ wanted) ⌝ }
+    ensures { λ r. ⌜ r ≡ unless (placesSound (rows (now (table .entry))) (now (places .entry)) (map wantedOf (wishes w (items (now (list .entry)))))) 26 ⌝ }
+{
+    if places.len() != wanted {
+        return 26;
+    }
+    first(
+        each_refusal(w, list, table, places),
+        pairs_refusal(w, list, places),
+    )
+}
+
+// The adds: each new extent at its place.
+pub fn put_adds(w: NewExtents, list: &[u8], places: &[u64], out: &mut [u64]) -> usize
+    requires { ⌜ Ends (items (now list)) × (length (wishes w (items (now list))) ≡ length (now places)) ⌝ }
+    ensures { λ r. ⌜ Laid addNumbers 3 0 (placed (now (places .entry)) (map wantedOf (wishes w (items (now (list .entry)))))) (now (out .entry)) r (now (out .exit)) ⌝ }
+{
+    let mut c = holes::walk_start();
+    let mut m = 0;
+    for n in 0..places.len() {
+        let step = holes::next_piece(w, list, c);
+        m = lines::put_add(out, m, places[n], step.length, step.start);
+        c = step.after;
+    }
+    m
+}

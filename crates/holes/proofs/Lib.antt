@@ -1,0 +1,3 @@
+pub mod Gaps
+pub mod Pieces
+pub mod Walking

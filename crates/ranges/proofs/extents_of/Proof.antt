@@ -1,0 +1,35 @@
+use Rattle.ranges.proofs.Finish.{sides-told}
+use mathlib.Core.Path.{_∙_, sym}
+use borrow.Author.Needs.{needs}
+use Rattle.ranges.proofs.extents_of.Statement.{statement}
+use Rattle.ranges.proofs.extents_of.Tie as tie
+use Rattle.ranges.proofs.extents_of.Reads as reads
+use Rattle.ranges.proofs.extents_of.Lts as lts
+use Rattle.changing.proofs.back_new.Reads as back-new-reads
+use Rattle.changing.proofs.front_new.Reads as front-new-reads
+use Rattle.ranges.proofs.side_of.Reads as side-of-reads
+
+-- src/lib.rt:124:22
+front-new-requires : tie.Need-front-new-requires
+front-new-requires c κs = search needs
+
+-- src/lib.rt:124:14
+side-of-requires : tie.Need-side-of-requires
+side-of-requires c κs = λ e. c .before .pre .0 (sym (c .front-new .ensures) ∙ e)
+
+-- src/lib.rt:125:22
+back-new-requires : tie.Need-back-new-requires
+back-new-requires c κs = search needs
+
+-- src/lib.rt:125:14
+side-of-requires-2 : tie.Need-side-of-requires-2
+side-of-requires-2 c κs = λ e. c .before .before .before .pre .1 (sym (c .back-new .ensures) ∙ e)
+
+-- src/lib.rt:119:1
+returns : tie.Need-returns
+returns c = let a = c .before .before .before .before .args in sides-told (a .v) (a .c) (a .w) (a .p) _ _ _ _ (c .before .before .before .front-new .ensures) (c .before .back-new .ensures) (c .before .before .side-of .ensures) (c .side-of2 .ensures)
+
+pub extents-of-spec : {M : Type 1} → statement M
+extents-of-spec =
+    tie.close
+    (tie.spec front-new-requires side-of-requires back-new-requires side-of-requires-2 returns)
