@@ -117,7 +117,7 @@ alike-bytes (one m e d a) = ap₂ (λ (n k : ℕ). n + k) d (alike-bytes a)
 abbrev somewhere : List ℕ → Bool
 somewhere ps = every (λ (p : ℕ). not (eqb p 0)) ps
 
-ones-some : (n : ℕ) → somewhere (replicate n 1) ≡ true
+pub ones-some : (n : ℕ) → every (λ (p : ℕ). not (eqb p 0)) (replicate n 1) ≡ true
 unfolding every
 ones-some zero = refl
 ones-some (suc n) = ones-some n

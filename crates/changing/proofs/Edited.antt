@@ -8,7 +8,7 @@ use lib.Dec.{eqb}
 use lib.ListN.{take, drop, take-append-drop}
 use Rattle.records.specs.Stages.{every, pairs}
 use Rattle.records.proofs.Tests.{both, both-left, both-right, every-map}
-use Rattle.records.proofs.Lists.{every-true}
+use Rattle.records.proofs.Lists.{every-true, every-parts, pairs-parts}
 use Rattle.item.specs.Items.{Fields, ranged}
 use Rattle.lists.specs.Lists.{itemSound, rises, apart}
 use Rattle.lists.proofs.Laws.{Kept}
@@ -19,6 +19,7 @@ use Rattle.cut.proofs.Kept.{clear-apart, kept-from, from-keeps, from-insertAll,
 use Rattle.segment.specs.declared.Segment.{Segment}
 use Rattle.records.proofs.Lists.{pairs-drop}
 use Rattle.cut.proofs.Inserts.{fresh, inserted-rises}
+use Rattle.edits.proofs.Replaced.{items-made, items-replaced}
 use Rattle.edits.proofs.Filled.{edits-filled}
 use Rattle.plan.specs.Plans.{Add}
 use Rattle.plan.specs.Places.{Wanted}
@@ -31,28 +32,7 @@ use Rattle.change.proofs.News.{wants, wantedSound, wantedApart, wantedClear, wa
 use Rattle.change.proofs.Steps.{kept-joined, ranged-joined}
 use Rattle.changing.specs.Sides.{middle}
 
--- ---- a test of a list, of its two parts
-
-module _ {A : Type 0} where
-  every-parts : (p : A → Bool) (l m : List A) → every p (l ++ m) ≡ true → (every p l ≡ true) × (every p m ≡ true)
-  unfolding every
-  every-parts p [] m h = (refl, h)
-  every-parts p (a ∷ l) m h =
-      let r = every-parts p l m (both-right (p a) (every p (l ++ m)) h) in
-      (both (p a) (every p l) (both-left (p a) (every p (l ++ m)) h) (r .0), r .1)
-
-  pairs-parts : (p : A → A → Bool) (l m : List A) → pairs p (l ++ m) ≡ true → (pairs p l ≡ true) × (pairs p m ≡ true) × (every (λ (a : A). every (p a) m) l ≡ true)
-  unfolding pairs every
-  pairs-parts p [] m h = (refl, h, refl)
-  pairs-parts p (a ∷ l) m h =
-      let e = every-parts (p a) l m (both-left (every (p a) (l ++ m)) (pairs p (l ++ m)) h) in
-      let r = pairs-parts p l m (both-right (every (p a) (l ++ m)) (pairs p (l ++ m)) h) in
-      (both (every (p a) l) (pairs p l) (e .0) (r .0), r .1, both (every (p a) m) (every (λ (c : A). every (p c) m) l) (e .1) (r .2))
-
 -- ---- a segment that stands for a part of a list
-
-marked : (b : Bool) (fs : List Fields) → itemsOf (map (λ (f : Fields). record { made = b; item = f }) fs) ≡ fs
-marked b fs = map-map (λ (p : Piece). p .item) (λ (f : Fields). record { made = b; item = f }) fs ∙ map-id fs
 
 module _ (fs : List Fields) (s : Segment) (segment : List Fields) where
   abbrev pieces : List Piece
@@ -64,14 +44,8 @@ module _ (fs : List Fields) (s : Segment) (segment : List Fields) where
   abbrev behind : List Fields
   behind = drop (s .to) fs
 
-  pub items-replaced : itemsOf pieces ≡ ahead ++ (segment ++ behind)
-  items-replaced =
-      map-append (λ (p : Piece). p .item) (map kept ahead) (map made segment ++ map kept behind)
-      ∙ ap₂ (λ (l m : List Fields). l ++ m) (marked false ahead)
-      (map-append (λ (p : Piece). p .item) (map made segment) (map kept behind) ∙ ap₂ (λ (l m : List Fields). l ++ m) (marked true segment) (marked false behind))
-
   pub bytes-same : countedBytes (itemsOf pieces) ≡ countedBytes ahead + (countedBytes segment + countedBytes behind)
-  bytes-same = rw items-replaced (omega (arith, bytes-append ahead (segment ++ behind), bytes-append segment behind))
+  bytes-same = rw (items-replaced fs (s .from) (s .to) segment) (omega (arith, bytes-append ahead (segment ++ behind), bytes-append segment behind))
 
   module _ (file : ℕ) where
     -- what makes way rises
@@ -83,7 +57,7 @@ module _ (fs : List Fields) (s : Segment) (segment : List Fields) where
 
     module _ (k : Kept file (itemsOf pieces)) where
       rising : pairs rises (ahead ++ (segment ++ behind)) ≡ true
-      rising = rw items-replaced at (k .rising)
+      rising = rw (items-replaced fs (s .from) (s .to) segment) at (k .rising)
 
       -- and so does what takes its place
       pub segment-rises : pairs rises segment ≡ true
@@ -101,10 +75,10 @@ module _ (fs : List Fields) (s : Segment) (segment : List Fields) where
       -- what takes its place rises with them
       pub part-rises : (ys : List Fields) → pairs rises ys ≡ true → every (fresh (itemsOf pieces)) ys ≡ true → pairs rises (itemsOf (insertAll ys (map made segment))) ≡ true
       part-rises ys r news =
-          inserted-rises (map made segment) ys (rw (marked true segment) segment-rises) r
-          (rw (marked true segment)
+          inserted-rises (map made segment) ys (rw (items-made segment) segment-rises) r
+          (rw (items-made segment)
           (every-map (fresh (itemsOf pieces)) (fresh segment)
-          (λ y e. let d : Fields → Bool = λ f. not (eqb (f .key) (y .key)) in every-parts d segment behind (every-parts d ahead (segment ++ behind) (rw items-replaced at e) .1) .0) ys news))
+          (λ y e. let d : Fields → Bool = λ f. not (eqb (f .key) (y .key)) in every-parts d segment behind (every-parts d ahead (segment ++ behind) (rw (items-replaced fs (s .from) (s .to) segment) at e) .1) .0) ys news))
 
       -- the bytes fit
       pub bytes-below : every ranged (itemsOf pieces) ≡ true → countedBytes ahead + (countedBytes segment + countedBytes behind) < 2 ^ 64

@@ -1,12 +1,13 @@
 -- A change's lists by its two sectors: which are written in place, and which take a new extent. Assumes nothing.
 use mathlib.Core.Path.{_≡_, refl, ap, ap₂, _∙_, sym}
 use mathlib.Core.Bool.{Bool, true, false, cond, _&&_, not}
-use mathlib.Core.List.{List, [], _∷_, _++_, map, flatMap, append-nil, append-assoc}
+use mathlib.Core.List.{List, [], _∷_, _++_, map, flatMap, append-nil}
 use mathlib.Core.Option.{none, some}
 use Prim.Native.Nat.{ℕ, _≤_}
 use native.Mathlib.Omega.{arith}
 use lib.ListN.{length, length-append}
 use Rattle.records.specs.Select.{only, keep}
+use Rattle.records.proofs.Lists.{flat-append}
 use Rattle.records.proofs.Picks.{keep-append, only-few}
 use Rattle.refs.specs.Drops.{Held}
 use Rattle.plan.specs.Places.{Wanted}
@@ -51,11 +52,6 @@ ways P tt tf ft ff true true = tt
 ways P tt tf ft ff true false = tf
 ways P tt tf ft ff false true = ft
 ways P tt tf ft ff false false = ff
-
-flat-append : {A B : Type 0} (f : A → List B) (l m : List A) → flatMap f (l ++ m) ≡ flatMap f l ++ flatMap f m
-unfolding flatMap
-flat-append f [] m = refl
-flat-append f (a ∷ l) m = ap (λ k. f a ++ k) (flat-append f l m) ∙ sym (append-assoc (f a) (flatMap f l) (flatMap f m))
 
 each-append : {A : Type 0} (g : Ground) (f : Rewrite → Held → A) (l m : List Rewrite) → eachInPlace g f (l ++ m) ≡ eachInPlace g f l ++ eachInPlace g f m
 unfolding eachInPlace

@@ -1,7 +1,7 @@
 -- The edits where a part of a list makes way for others. Assumes nothing.
-use mathlib.Core.Path.{_≡_, refl, ap, _∙_, sym}
-use mathlib.Core.Bool.{Bool, true, not, or-false}
-use mathlib.Core.List.{List, [], _∷_, _++_, append-nil, map, flatMap}
+use mathlib.Core.Path.{_≡_, refl, ap, ap₂, _∙_, sym}
+use mathlib.Core.Bool.{Bool, true, false, not, or-false}
+use mathlib.Core.List.{List, [], _∷_, _++_, append-nil, map, flatMap, map-append, map-map, map-id}
 use Prim.Native.Nat.{ℕ, zero, suc, _-_, _≤_}
 use native.Mathlib.Omega.{arith}
 use native.Mathlib.Nat.{sub-zero}
@@ -15,10 +15,26 @@ use Rattle.records.proofs.Lists.{every-append, any-appended, every-take, every-
 use Rattle.records.proofs.Picks.{keep-append, keep-mapped}
 use Rattle.item.specs.Items.{Fields}
 use Rattle.lists.specs.Lists.{rises}
-use Rattle.cut.specs.Pieces.{Piece, made, kept, replaced}
+use Rattle.cut.specs.Pieces.{Piece, made, kept, itemsOf, replaced}
 use Rattle.cut.specs.Edits.{Edit, put, delete, puts, below, edits}
 use Rattle.cut.proofs.Cases.{over, none-below, all-from, none-at, edits-first, edits-same}
 use Rattle.edits.proofs.Cases.{made-over}
+
+-- ---- the items
+
+marked : (b : Bool) (fs : List Fields) → itemsOf (map (λ (f : Fields). record { made = b; item = f }) fs) ≡ fs
+marked b fs = map-map (λ (p : Piece). p .item) (λ (f : Fields). record { made = b; item = f }) fs ∙ map-id fs
+
+pub items-made : (fs : List Fields) → itemsOf (map made fs) ≡ fs
+items-made = marked true
+
+pub items-replaced : (fs : List Fields) (from to : ℕ) (s : List Fields) → itemsOf (replaced fs from to s) ≡ take from fs ++ (s ++ drop to fs)
+items-replaced fs from to s =
+    map-append (λ (p : Piece). p .item) (map kept (take from fs)) (map made s ++ map kept (drop to fs))
+    ∙ ap₂ (λ (l m : List Fields). l ++ m) (marked false (take from fs))
+    (map-append (λ (p : Piece). p .item) (map made s) (map kept (drop to fs)) ∙ ap₂ (λ (l m : List Fields). l ++ m) (items-made s) (marked false (drop to fs)))
+
+-- ---- the edits
 
 -- each of these lies before each of those
 abbrev pub allRise : List Fields → List Fields → Bool

@@ -1,6 +1,6 @@
 -- The holes that a fallocate fills. Assumes nothing.
 use mathlib.Core.Path.{_≡_, refl, _∙_, sym}
-use mathlib.Core.Bool.{Bool, true, false, cond, _&&_, not}
+use mathlib.Core.Bool.{Bool, true, false, cond, _&&_, not, or-false}
 use mathlib.Core.List.{List, [], _∷_, flatMap}
 use mathlib.Core.Logic.{inl}
 use Prim.Native.Nat.{ℕ, _+_, _-_, _%_, _≤_, _<_}
@@ -19,7 +19,7 @@ use Rattle.change.proofs.Fair.{holeFree, holesRise}
 use Rattle.change.proofs.Rounding.{down-below, down-whole, up-above, up-whole}
 use Rattle.change.specs.Sweep.{sumOf}
 use Rattle.fallocate.specs.Fallocate.{endRewritten, less, lessItems, from, to, endSector, endStop, holesToAllocate}
-use Rattle.fallocate.proofs.Less.{within, within-true, within-facts, without-true, without-facts, inside, over, or-false, inside-less, inside-lessItems, Rising, rising-less, rising-lessItems, between, rising-between, rising-pairs, rising-sum, clearOf, clear-told, less-clear, lessItems-free, free-less, wholes-told, wholeSpan, wholeItem, whole-less, whole-lessItems}
+use Rattle.fallocate.proofs.Less.{within, within-true, within-facts, without-true, without-facts, inside, over, inside-less, inside-lessItems, Rising, rising-less, rising-lessItems, between, rising-between, rising-pairs, rising-sum, clearOf, clear-told, less-clear, lessItems-free, free-less, wholes-told, wholeSpan, wholeItem, whole-less, whole-lessItems}
 
 module _ (size sector offset stop : ℕ) where
   abbrev lo : ℕ

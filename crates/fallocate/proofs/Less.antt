@@ -1,6 +1,6 @@
 -- Stretches of a file with ranges taken out: which offsets they hold, how they lie, how long they are. Assumes nothing.
 use mathlib.Core.Path.{_≡_, refl, _∙_, sym}
-use mathlib.Core.Bool.{Bool, true, false, _&&_, _||_, not, false≢true}
+use mathlib.Core.Bool.{Bool, true, false, _&&_, _||_, not, or-false, false≢true}
 use mathlib.Core.List.{List, [], _∷_, _++_, flatMap}
 use mathlib.Core.Logic.{_⊎_, inl, inr, ⊎-elim}
 use Prim.Native.Nat.{ℕ, _+_, _-_, _%_, _≤_, _<_, min, max}
@@ -11,7 +11,7 @@ use borrow.Author.Tests.{eqb-true, eq-eqb, leb-true, ltb-true, le-leb, lt-ltb, n
 use Rattle.records.specs.Select.{only, any}
 use Rattle.records.specs.Stages.{every, pairs}
 use Rattle.records.proofs.Tests.{both, both-left, both-right, either, either-left, either-right, same, every-map, every-both}
-use Rattle.records.proofs.Lists.{every-true}
+use Rattle.records.proofs.Lists.{every-true, every-append, any-appended}
 use Rattle.records.proofs.Wholes.{add-whole, sub-whole, min-whole, max-whole}
 use Rattle.item.specs.Items.{Fields, end}
 use Rattle.cut.proofs.Kept.{clear}
@@ -57,10 +57,6 @@ over o f = within (f .key) (end f) o
 
 -- ---- offsets that are left
 
-pub or-false : (b : Bool) → (b || false) ≡ b
-or-false true = refl
-or-false false = refl
-
 or-and : (x y c : Bool) → ((x && c) || (y && c)) ≡ ((x || y) && c)
 or-and true y true = refl
 or-and true true false = refl
@@ -73,15 +69,6 @@ and-not true false z = refl
 and-not false y z = refl
 
 module _ {A : Type 0} where
-  any-append : (p : A → Bool) (k l : List A) → any p (k ++ l) ≡ (any p k || any p l)
-  unfolding any
-  any-append p [] l = refl
-  any-append p (a ∷ k) l = rw (any-append p k l) (go (p a))
-    where
-      go : (b : Bool) → (b || (any p k || any p l)) ≡ ((b || any p k) || any p l)
-      go true = refl
-      go false = refl
-
   any-two : (p : A → Bool) (t u : Bool) (x y : A) → any p (only t x ++ only u y) ≡ ((t && p x) || (u && p y))
   unfolding any
   any-two p true true x y = rw or-false refl
@@ -93,7 +80,7 @@ module _ {A : Type 0} where
   any-flat : (p q : A → Bool) (c : Bool) (f : A → List A) → ((a : A) → any p (f a) ≡ (q a && c)) → (l : List A) → any p (flatMap f l) ≡ (any q l && c)
   unfolding any flatMap
   any-flat p q c f h [] = refl
-  any-flat p q c f h (a ∷ l) = any-append p (f a) (flatMap f l) ∙ rw (h a, any-flat p q c f h l) (or-and (q a) (any q l) c)
+  any-flat p q c f h (a ∷ l) = any-appended p (f a) (flatMap f l) ∙ rw (h a, any-flat p q c f h l) (or-and (q a) (any q l) c)
 
 -- what is left of a stretch before a, and from b on, if anything is
 abbrev pub front : (a : ℕ) → Span → Span
@@ -241,11 +228,6 @@ rising-sum lo hi [] r = omega arith
 rising-sum lo hi (s ∷ ss) r = omega (arith, r .0, rising-order (s .start + s .length) hi ss (r .2), rising-sum (s .start + s .length) hi ss (r .2))
 
 -- ---- tests of every stretch
-
-every-append : {A : Type 0} (p : A → Bool) (k l : List A) → every p k ≡ true → every p l ≡ true → every p (k ++ l) ≡ true
-unfolding every
-every-append p [] l h e = e
-every-append p (a ∷ k) l h e = both (p a) (every p (k ++ l)) (both-left (p a) (every p k) h) (every-append p k l (both-right (p a) (every p k) h) e)
 
 every-only : {A : Type 0} (p : A → Bool) (t : Bool) (x : A) → (t ≡ true → p x ≡ true) → every p (only t x) ≡ true
 unfolding every

@@ -1,7 +1,7 @@
 -- The holes that a fallocate fills, found by one sweep along the items of a list that is well kept. Assumes nothing.
 use mathlib.Core.Path.{_≡_, refl, ap, _∙_, sym}
 use mathlib.Core.Bool.{Bool, true, false, cond}
-use mathlib.Core.List.{List, [], _∷_, _++_, flatMap, append-nil, append-assoc}
+use mathlib.Core.List.{List, [], _∷_, _++_, flatMap, append-nil}
 use Prim.Native.Nat.{ℕ, _+_, _-_, _≤_, _<_, min, max}
 use native.Mathlib.Omega.{arith}
 use lib.Dec.{ltb}
@@ -9,6 +9,7 @@ use borrow.Author.Tests.{ltb-true, ltb-false, lt-ltb, le-ltb}
 use Rattle.records.specs.Select.{only, keep}
 use Rattle.records.specs.Stages.{every}
 use Rattle.records.proofs.Tests.{both, same}
+use Rattle.records.proofs.Lists.{flat-append}
 use Rattle.records.proofs.Picks.{keep-all, keep-append}
 use Rattle.item.specs.Items.{Fields, end}
 use Rattle.segment.specs.Segments.{Runs}
@@ -54,11 +55,6 @@ only-piece a b = rw alike (go (ltb 0 (b - a)))
     go false = refl
 
 -- ---- a range taken out of it
-
-flat-append : (f : Span → List Span) (k l : List Span) → flatMap f (k ++ l) ≡ flatMap f k ++ flatMap f l
-unfolding flatMap
-flat-append f [] l = refl
-flat-append f (s ∷ k) l = ap (λ (m : List Span). f s ++ m) (flat-append f k l) ∙ sym (append-assoc (f s) (flatMap f k) (flatMap f l))
 
 module _ (a b : ℕ) where
   -- its halves are left, if they have bytes

@@ -74,7 +74,7 @@ fn gap_stop(list: &[u8], to: u64, n: usize) -> u64
 }
 
 // Stretch n of the sweep: an even one lies before lo, an odd one from hi on.
-pub fn swept(w: NewExtents, list: &[u8], n: usize) -> Stretch
+fn swept(w: NewExtents, list: &[u8], n: usize) -> Stretch
     requires { ⌜ Ends (items (now list)) × (n < 2 * (length (items (now list)) + 1)) ⌝ }
     ensures { λ r. ⌜ spanOf r ≡ getD (sweep (w .lo) (w .hi) (w .from) (w .to) (items (now (list .entry)))) n (upTo 0 0) ⌝ }
 {

@@ -44,7 +44,7 @@ use Rattle.change.specs.Changes.{Change, Drafted, spanFor, before as itemsBefor
 use Rattle.change.specs.Sweep.{sumOf, sweep, filledOf}
 use Rattle.change.proofs.Fair.{Fair}
 use Rattle.change.proofs.News.{pieceWanted}
-use Rattle.change.proofs.Drafts.{Most, numbers-sound, numbers-most}
+use Rattle.change.proofs.Drafts.{numbers-sound, numbers-most, ones-some}
 use Rattle.change.proofs.Filled.{bare-fair, bare-refusal, holes-below}
 use Rattle.holes.specs.declared.Sums.{Sums}
 use Rattle.holes.specs.declared.NewExtents.{NewExtents}
@@ -181,11 +181,6 @@ unfolding placed newItems
 pieces-read g [] ss = refl
 pieces-read g (q ∷ qs) [] = refl
 pieces-read g (q ∷ qs) (s ∷ ss) = ap (λ (l : List Fields). pieceItem (g .file) (g .generation + 1) (record { start = q; length = s .length; key = s .start }) ∷ l) (pieces-read g qs ss)
-
-ones-some : (n : ℕ) → every (λ (p : ℕ). not (eqb p 0)) (replicate n 1) ≡ true
-unfolding every
-ones-some zero = refl
-ones-some (suc n) = ones-some n
 
 pass : (o : Outcome Plan) → refusedOr 0 o ≡ o
 unfolding refusedOr

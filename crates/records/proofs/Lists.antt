@@ -1,7 +1,7 @@
 -- Laws of tests over lists: of all, of one, and of every two. Assumes nothing.
 use mathlib.Core.Path.{_≡_, refl, ap, _∙_, sym}
 use mathlib.Core.Bool.{Bool, true, false, cond, _&&_, _||_, not, or-false, false≢true}
-use mathlib.Core.List.{List, [], _∷_, _++_, map, flatMap, List·Memᴰ, List·Memᴰ·head, List·Memᴰ·tail}
+use mathlib.Core.List.{List, [], _∷_, _++_, map, flatMap, List·Memᴰ, List·Memᴰ·head, List·Memᴰ·tail, append-assoc}
 use mathlib.Core.Logic.{_⊎_, inl, inr}
 use Prim.Native.Nat.{ℕ, zero, suc, _<_}
 use native.Mathlib.Omega.{arith}
@@ -62,6 +62,22 @@ module _ {A : Type 0} where
 
   pub any-append : (p : A → Bool) (l m : List A) → (any p l || any p m) ≡ true → any p (l ++ m) ≡ true
   any-append p l m h = any-appended p l m ∙ h
+
+  -- and back: a test of a list, of its two parts
+  pub every-parts : (p : A → Bool) (l m : List A) → every p (l ++ m) ≡ true → (every p l ≡ true) × (every p m ≡ true)
+  unfolding every
+  every-parts p [] m h = (refl, h)
+  every-parts p (a ∷ l) m h =
+      let r = every-parts p l m (both-right (p a) (every p (l ++ m)) h) in
+      (both (p a) (every p l) (both-left (p a) (every p (l ++ m)) h) (r .0), r .1)
+
+  pub pairs-parts : (p : A → A → Bool) (l m : List A) → pairs p (l ++ m) ≡ true → (pairs p l ≡ true) × (pairs p m ≡ true) × (every (λ (a : A). every (p a) m) l ≡ true)
+  unfolding pairs every
+  pairs-parts p [] m h = (refl, h, refl)
+  pairs-parts p (a ∷ l) m h =
+      let e = every-parts (p a) l m (both-left (every (p a) (l ++ m)) (pairs p (l ++ m)) h) in
+      let r = pairs-parts p l m (both-right (every (p a) (l ++ m)) (pairs p (l ++ m)) h) in
+      (both (every (p a) l) (pairs p l) (e .0) (r .0), r .1, both (every (p a) m) (every (λ (c : A). every (p c) m) l) (e .1) (r .2))
 
   -- one of two
   pub any-of-two : (p : A → Bool) (a b : A) → (p a || p b) ≡ any p (a ∷ b ∷ [])
@@ -219,3 +235,8 @@ module _ {A B : Type 0} where
       go : (b : Bool) → p a ≡ b → (b || any p l) ≡ true → (any p l ≡ true → any q (flatMap f l) ≡ true) → any q (f a ++ flatMap f l) ≡ true
       go true t h g = any-append q (f a) (flatMap f l) (either-left (any q (f a)) (any q (flatMap f l)) (k a t (both-left (u a) (every u l) e)))
       go false t h g = any-append q (f a) (flatMap f l) (either-right (any q (f a)) (any q (flatMap f l)) (g h))
+
+pub flat-append : {A B : Type 0} (f : A → List B) (l m : List A) → flatMap f (l ++ m) ≡ flatMap f l ++ flatMap f m
+unfolding flatMap
+flat-append f [] m = refl
+flat-append {A} {B} f (a ∷ l) m = ap (λ (k : List B). f a ++ k) (flat-append f l m) ∙ sym (append-assoc (f a) (flatMap f l) (flatMap f m))
