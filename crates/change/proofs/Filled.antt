@@ -86,7 +86,7 @@ writes-part [] qs (r ∷ rs) h = absurd (omega arith)
 writes-part (p ∷ ps) qs [] h = absurd (omega arith)
 writes-part (p ∷ ps) qs (r ∷ rs) h = ap (λ (l : List Write). record { key = r .sector; at = p; first = r .first; end = r .end } ∷ l) (writes-part ps qs rs (omega arith))
 
-insert-parts : (xs ys : List Fields) (ps : List Piece) → insertAll (xs ++ ys) ps ≡ insertAll ys (insertAll xs ps)
+pub insert-parts : (xs ys : List Fields) (ps : List Piece) → insertAll (xs ++ ys) ps ≡ insertAll ys (insertAll xs ps)
 unfolding insertAll
 insert-parts [] ys ps = refl
 insert-parts (x ∷ xs) ys ps = insert-parts xs ys (insert x ps)

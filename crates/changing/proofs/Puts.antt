@@ -18,18 +18,23 @@ use Rattle.request.specs.declared.Volume.{Volume}
 use Rattle.request.specs.declared.File.{File}
 use Rattle.change.specs.declared.Rewrite.{Rewrite}
 use Rattle.change.specs.declared.RangeChange.{RangeChange}
+use Rattle.change.proofs.Filled.{insert-parts}
 use Rattle.rewrites.specs.declared.Holder.{Holder}
 use Rattle.changing.specs.declared.Parts.{Parts}
-use Rattle.changing.specs.Raw.{PutIf, JoinedIf, Made, Within, Inside, Ready, partItem, newItem}
+use Rattle.changing.specs.Raw.{When, PutIf, JoinedIf, Made, Within, Inside, Ready, partItem, newItem}
 use Rattle.changing.specs.Sides.{frontNew, backNew, sides, joinedPieces, afterPieces}
 
 -- ---- one or none
 
-pub put-yes : (b : Bool) (x y : Fields) (s : Segment) (seg : List ℕ) (r : Segment) (seg′ : List ℕ) → b ≡ true → y ≡ x → Inserted y s seg r seg′ → PutIf b x s seg r seg′
-put-yes b x y s seg r seg′ t e i = record { put = λ z. rw e at i; kept = λ z. absurd (true≢false (sym t ∙ z)) }
+pub when-yes : (b : Bool) (D : Segment → List ℕ → Type 0) (s : Segment) (seg : List ℕ) (r : Segment) (seg′ : List ℕ) → b ≡ true → D r seg′ → When b D s seg r seg′
+when-yes b D s seg r seg′ t d = record { yes = λ z. d; no = λ z. absurd (true≢false (sym t ∙ z)) }
 
-pub put-no : (b : Bool) (x : Fields) (s : Segment) (seg : List ℕ) → b ≡ false → PutIf b x s seg s seg
-put-no b x s seg t = record { put = λ z. absurd (true≢false (sym z ∙ t)); kept = λ z. (refl, refl) }
+pub when-no : (b : Bool) (D : Segment → List ℕ → Type 0) (s : Segment) (seg : List ℕ) → b ≡ false → When b D s seg s seg
+when-no b D s seg t = record { yes = λ z. absurd (true≢false (sym z ∙ t)); no = λ z. (refl, refl) }
+
+-- an item put in that is this one
+pub put-yes : (b : Bool) (x y : Fields) (s : Segment) (seg : List ℕ) (r : Segment) (seg′ : List ℕ) → b ≡ true → y ≡ x → Inserted y s seg r seg′ → PutIf b x s seg r seg′
+put-yes b x y s seg r seg′ t e i = when-yes b (Inserted x s seg) s seg r seg′ t (rw e at i)
 
 -- ---- what is made
 
@@ -51,7 +56,7 @@ made-put ps lo hi n list b x s seg r seg′ m p q = go b refl
   where
     go : (t : Bool) → b ≡ t → Made (insertAll (only t x) ps) lo hi (n + 1) list r seg′
     go true e =
-        let i = p .put e in
+        let i = p .yes e in
         let k = q e in
         let a = m .around (x .key) (k .0) (k .1) in
         record {
@@ -60,7 +65,7 @@ made-put ps lo hi n list b x s seg r seg′ m p q = go b refl
           good = inserted-good x list s seg r seg′ i (m .good) (le-leb (end x) (2 ^ 63) (k .2));
           around = λ k l h. inserted-around x list s seg r seg′ i k (m .around k l h);
         }
-    go false e = let w = p .kept e in rw (w .0, w .1) (unfold insertAll in made-more ps lo hi n (n + 1) list s seg (omega arith) m)
+    go false e = let w = p .no e in rw (w .0, w .1) (unfold insertAll in made-more ps lo hi n (n + 1) list s seg (omega arith) m)
 
 -- after the joins around a sector
 pub made-join :
@@ -72,14 +77,14 @@ made-join ps lo hi n list b g k s seg r seg′ m p = go b refl
   where
     go : (t : Bool) → b ≡ t → Made (joinAll g (only t k) ps) lo hi n list r seg′
     go true e =
-        let j = p .joined e in
+        let j = p .yes e in
         record {
           same = unfold joinAll in j .same ∙ ap (joinAround g k) (m .same);
           few = omega (arith, j .most, m .few);
           good = j .good;
           around = λ o l h. joining-around g k o list s seg r seg′ j (m .around o l h);
         }
-    go false e = let w = p .kept e in rw (w .0, w .1) (unfold joinAll in m)
+    go false e = let w = p .no e in rw (w .0, w .1) (unfold joinAll in m)
 
 -- ---- a segment that starts at or before an offset
 
@@ -88,7 +93,7 @@ Reaches k s seg = (0 < s .count) × (itemAt seg 0 .key ≤ k)
 
 -- it starts with what was put in, or before
 pub put-reaches : (b : Bool) (x : Fields) (list : List ℕ) (s : Segment) (seg : List ℕ) (r : Segment) (seg′ : List ℕ) → PutIf b x s seg r seg′ → b ≡ true → Reaches (x .key) r seg′
-put-reaches b x list s seg r seg′ p t = let f = inserted-first x list s seg r seg′ (p .put t) in (f .0, f .1)
+put-reaches b x list s seg r seg′ p t = let f = inserted-first x list s seg r seg′ (p .yes t) in (f .0, f .1)
 
 -- and does so after more
 pub put-keeps : (b : Bool) (x : Fields) (k : ℕ) (list : List ℕ) (s : Segment) (seg : List ℕ) (r : Segment) (seg′ : List ℕ) → Good list s seg → PutIf b x s seg r seg′ → Reaches k s seg → Reaches k r seg′
@@ -96,31 +101,20 @@ put-keeps b x k list s seg r seg′ d p m = go b refl
   where
     go : (t : Bool) → b ≡ t → Reaches k r seg′
     go true e =
-        let i = p .put e in
+        let i = p .yes e in
         let l = inserted-lower x list s seg r seg′ i (m .0) (d .room) in
         let f = inserted-first x list s seg r seg′ i in
         (f .0, omega (arith, l, m .1))
-    go false e = let w = p .kept e in rw (w .0, w .1) m
+    go false e = let w = p .no e in rw (w .0, w .1) m
 
 pub join-keeps : (b : Bool) (g k o : ℕ) (list : List ℕ) (s : Segment) (seg : List ℕ) (r : Segment) (seg′ : List ℕ) → JoinedIf b g k list s seg r seg′ → Reaches o s seg → Reaches o r seg′
 join-keeps b g k o list s seg r seg′ p m = go b refl
   where
     go : (t : Bool) → b ≡ t → Reaches o r seg′
-    go true e = let j = p .joined e in (j .some, omega (arith, j .first, m .1))
-    go false e = let w = p .kept e in rw (w .0, w .1) m
+    go true e = let j = p .yes e in (j .some, omega (arith, j .first, m .1))
+    go false e = let w = p .no e in rw (w .0, w .1) m
 
 -- ---- all steps of a change with no place taken
-
-pub join-yes : (b : Bool) (g k : ℕ) (list : List ℕ) (s : Segment) (seg : List ℕ) (r : Segment) (seg′ : List ℕ) → b ≡ true → Joining g k list s seg r seg′ → JoinedIf b g k list s seg r seg′
-join-yes b g k list s seg r seg′ t j = record { joined = λ z. j; kept = λ z. absurd (true≢false (sym t ∙ z)) }
-
-pub join-no : (b : Bool) (g k : ℕ) (list : List ℕ) (s : Segment) (seg : List ℕ) → b ≡ false → JoinedIf b g k list s seg s seg
-join-no b g k list s seg t = record { joined = λ z. absurd (true≢false (sym z ∙ t)); kept = λ z. (refl, refl) }
-
-insert-two : (xs ys : List Fields) (ps : List Piece) → insertAll (xs ++ ys) ps ≡ insertAll ys (insertAll xs ps)
-unfolding insertAll
-insert-two [] ys ps = refl
-insert-two (x ∷ xs) ys ps = insert-two xs ys (insert x ps)
 
 join-two : (g : ℕ) (xs ys : List ℕ) (ps : List Piece) → joinAll g (xs ++ ys) ps ≡ joinAll g ys (joinAll g xs ps)
 unfolding joinAll
@@ -141,7 +135,7 @@ module _ (v : Volume) (c : RangeChange) (p : Parts) (list : List ℕ) (ready : R
 
       pub made2 : Made written (c .lo) (c .hi) 4 list s2 b2
       made2 =
-          rw (insert-two (only (p .front .found) (partItem v (c .front) (p .front))) (only (p .back .found) (partItem v (c .back) (p .back))) (cutPieces (c .lo) (c .hi) (items list)))
+          rw (insert-parts (only (p .front .found) (partItem v (c .front) (p .front))) (only (p .back .found) (partItem v (c .back) (p .back))) (cutPieces (c .lo) (c .hi) (items list)))
           (made-put _ (c .lo) (c .hi) 3 list (p .back .found) (partItem v (c .back) (p .back)) s1 b1 s2 b2 made1 p2 (λ t. part-inside v c (c .back) (p .back) (ready .back t)))
 
       -- what the joins ask for
@@ -178,5 +172,5 @@ module _ (v : Volume) (f : File) (c : RangeChange) (p : Parts) (x y : ℕ) (list
 
     pub new-all : (s2 : Segment) (b2 : List ℕ) → PutIf (backNew c p) (newItem v f (c .back) y) s1 b1 s2 b2 → Made (afterPieces v f c p x y (items list)) (c .lo) (c .hi) 6 list s2 b2
     new-all s2 b2 p2 =
-        rw (insert-two (only (frontNew c p) (newItem v f (c .front) x)) (only (backNew c p) (newItem v f (c .back) y)) (joinedPieces v c p (items list)))
+        rw (insert-parts (only (frontNew c p) (newItem v f (c .front) x)) (only (backNew c p) (newItem v f (c .back) y)) (joinedPieces v c p (items list)))
         (made-put _ (c .lo) (c .hi) 5 list (backNew c p) (newItem v f (c .back) y) s1 b1 s2 b2 new1 p2 (λ t. new-inside (c .back) y (ready .«new-back» (both-left (c .«has_back») (not (p .back .found)) t))))

@@ -27,15 +27,17 @@ pub record Parting (hs : List Held) (c : RangeChange) (p : Parts) : Type 0 where
 
 -- ---- the segment, step by step
 
--- an item put in, if it is there
-pub record PutIf (there : Bool) (x : Fields) (s : Segment) (seg : List ℕ) (r : Segment) (seg′ : List ℕ) : Type 0 where
-  pub put : there ≡ true → Inserted x s seg r seg′
-  pub kept : there ≡ false → (r ≡ s) × (seg′ ≡ seg)
+-- what was done to a segment, if it was; else it is as before
+pub record When (there : Bool) (done : Segment → List ℕ → Type 0) (s : Segment) (seg : List ℕ) (r : Segment) (seg′ : List ℕ) : Type 0 where
+  pub yes : there ≡ true → done r seg′
+  pub no : there ≡ false → (r ≡ s) × (seg′ ≡ seg)
 
--- the joins around a sector, if it is written in place
-pub record JoinedIf (there : Bool) (generation sector : ℕ) (list : List ℕ) (s : Segment) (seg : List ℕ) (r : Segment) (seg′ : List ℕ) : Type 0 where
-  pub joined : there ≡ true → Joining generation sector list s seg r seg′
-  pub kept : there ≡ false → (r ≡ s) × (seg′ ≡ seg)
+-- an item put in; the joins around a sector that is written in place
+abbrev pub PutIf : Bool → Fields → Segment → List ℕ → Segment → List ℕ → Type 0
+PutIf there x s seg = When there (Inserted x s seg) s seg
+
+abbrev pub JoinedIf : Bool → (generation sector : ℕ) → List ℕ → Segment → List ℕ → Segment → List ℕ → Type 0
+JoinedIf there generation sector list s seg = When there (Joining generation sector list s seg) s seg
 
 -- a segment that makes these pieces of the list, with at most n items; what is cut is [lo, hi)
 pub record Made (ps : List Piece) (lo hi n : ℕ) (list : List ℕ) (s : Segment) (seg : List ℕ) : Type 0 where

@@ -1,6 +1,5 @@
 // The new extents that a change wants, one behind the other: sectors written anew, then the pieces of the holes of a
 // stretch of the file, found by one sweep along the list. Nothing is stored: the nth stretch is worked out from two records.
-use item::Item;
 ghost use mathlib.Core.Path.{_≡_};
 ghost use mathlib.Core.List.{flatMap};
 ghost use Prim.Native.Nat.{_+_, _-_, _*_, _≤_, _<_, _^_, min, max};

@@ -1,11 +1,11 @@
-use Rattle.changing.proofs.Puts.{put-yes, put-no}
+use Rattle.changing.proofs.Puts.{put-yes, when-no}
 use borrow.Author.Tests.{not-true, not-false}
 use borrow.Author.Needs.{needs}
 use Rattle.changing.proofs.insert_in_place.Statement.{statement}
 use Rattle.changing.proofs.insert_in_place.Tie as tie
 
 returns : tie.Need-returns
-returns c = put-no (c .before .before .before .args .h .found) _ _ _ (not-true _ (c .if1 .taken))
+returns c = when-no (c .before .before .before .args .h .found) _ _ _ (not-true _ (c .if1 .taken))
 
 item-in-place-requires : tie.Need-item-in-place-requires
 item-in-place-requires c κs = let p = c .before .before .before .before .pre in let q = p .0 (not-false _ (c .before .if1 .left)) in (q .0, q .1, p .1)

@@ -1,11 +1,11 @@
-use Rattle.changing.proofs.Puts.{put-yes, put-no}
+use Rattle.changing.proofs.Puts.{put-yes, when-no}
 use borrow.Author.Tests.{not-true, not-false}
 use borrow.Author.Needs.{needs}
 use Rattle.changing.proofs.insert_new.Statement.{statement}
 use Rattle.changing.proofs.insert_new.Tie as tie
 
 returns : tie.Need-returns
-returns c = put-no (c .before .before .args .new) _ _ _ (not-true _ (c .if1 .taken))
+returns c = when-no (c .before .before .args .new) _ _ _ (not-true _ (c .if1 .taken))
 
 add-regular-extent-item : tie.Need-add-regular-extent-item
 add-regular-extent-item c = search needs
