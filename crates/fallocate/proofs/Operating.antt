@@ -1,5 +1,5 @@
 -- From the refusals of a fallocate to its answer. Assumes nothing.
-use mathlib.Core.Path.{_≡_, refl, ap₂, _∙_, subst}
+use mathlib.Core.Path.{_≡_, refl, ap₂, _∙_, sym, subst}
 use mathlib.Core.Bool.{Bool}
 use mathlib.Core.List.{List}
 use Prim.Native.Nat.{ℕ, zero, suc, _+_}
@@ -13,7 +13,7 @@ use Rattle.request.specs.declared.Volume.{Volume}
 use Rattle.request.specs.declared.File.{File}
 use Rattle.request.specs.declared.Range.{Range}
 use Rattle.request.specs.Lent.{listBroken, tableBroken}
-use Rattle.request.specs.Answers.{Outcome, refused}
+use Rattle.request.specs.Answers.{Outcome, plan, nothing, refused}
 use Rattle.request.proofs.Stages.{sector-some}
 use Rattle.plan.specs.Plans.{Plan, refusedOr}
 use Rattle.plan.specs.Outputs.{Rooms}
@@ -34,6 +34,15 @@ use Rattle.fallocate.proofs.Asking.{filled-is}
 use Rattle.fallocate.proofs.Fair.{fair}
 use Rattle.fallocate.proofs.Refusing.{Fit, fit, range-passed}
 
+-- a refusal, or a plan: never nothing to do
+answers : (x : ℕ) (o : Outcome Plan) → (o ≡ nothing → ⊥) → refusedOr x o ≡ nothing → ⊥
+unfolding refusedOr
+answers zero o h e = h e
+answers (suc x) o h e = let z : _≡_ {A = ℕ} 0 1 = cc in absurd (omega arith)
+
+plan-answers : (p : Plan) → plan p ≡ nothing → ⊥
+plan-answers p e = let z : _≡_ {A = ℕ} 0 1 = cc in absurd (omega arith)
+
 module _ (v : Volume) (f : File) (r : Range) (keep : Bool) (list shared table : List ℕ) where
   abbrev stop : ℕ
   stop = r .offset + r .length
@@ -41,9 +50,10 @@ module _ (v : Volume) (f : File) (r : Range) (keep : Bool) (list shared table : 
   abbrev asked : Change
   asked = fallocateChange keep (items list) (f .size) (v .sector) (r .offset) stop
 
-  module _ (none : refusalLent v f r list shared table ≡ 0) where
+  -- nothing refuses it
+  module _ (why : ℕ) (told : why ≡ refusalLent v f r list shared table) (none : why ≡ 0) where
     range : rangeLent v f r list shared table ≡ 0
-    range = range-passed v f r list shared table none
+    range = range-passed v f r list shared table (sym told ∙ none)
 
     pub fits : Fit v f r list shared table
     fits = fit v f r list shared table range
@@ -86,6 +96,11 @@ module _ (v : Volume) (f : File) (r : Range) (keep : Bool) (list shared table : 
     fallocate-refused why e z = whole ∙ rw (← e) (refuses why rest z)
 
     pub fallocate-changed :
-        (none : refusalLent v f r list shared table ≡ 0) (c : RangeChange) (w : Fill) → c ≡ endChange (f .size) (v .sector) stop → w ≡ fillOf keep (f .size) (v .sector) (r .offset) stop
+        (why : ℕ) (told : why ≡ refusalLent v f r list shared table) (none : why ≡ 0) (c : RangeChange) (w : Fill) → c ≡ endChange (f .size) (v .sector) stop → w ≡ fillOf keep (f .size) (v .sector) (r .offset) stop
         → fallocateLent v f r keep list shared table places rooms ≡ changed (groundOf v f (items list) shared (rows table)) (filledOf c w (items list)) pieceLimit places rooms
-    fallocate-changed none c w pc pw = whole ∙ passes _ rest none ∙ rw (filled none c w pc pw) refl
+    fallocate-changed why told none c w pc pw = whole ∙ passes _ rest (sym told ∙ none) ∙ rw (filled why told none c w pc pw) refl
+
+    -- there is never "nothing to do": a plan, or a refusal
+    pub never-nothing : fallocateLent v f r keep list shared table places rooms ≡ nothing → ⊥
+    unfolding fallocate changed
+    never-nothing = answers _ _ (answers _ _ (answers _ _ (plan-answers _)))

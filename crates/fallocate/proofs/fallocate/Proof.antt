@@ -1,7 +1,6 @@
 use denote.Ref.{now}
 use Rattle.fallocate.proofs.Operating.{fits, asked-now, fallocate-refused, fallocate-changed}
 use Rattle.ranges.proofs.Finish.{met-refused}
-use mathlib.Core.Path.{_∙_, sym}
 use native.Mathlib.Omega.{arith}
 use borrow.Author.Needs.{needs}
 use Rattle.fallocate.proofs.fallocate.Statement.{statement}
@@ -23,19 +22,19 @@ returns c = let a = c .before .before .before .before .before .before .before .b
 
 -- src/lib.rt:180:16
 add-stop : tie.Need-add-stop
-add-stop c = let a = c .before .before .before .before .before .before .before .before .before .before .before .before .before .args in let q = fits (a .v) (a .f) (a .r) (a .keep) (now (a .list)) (now (a .shared)) (now (a .table)) (sym (c .before .before .fallocate-refusal .ensures) ∙ c .before .if1 .left) in omega (arith, q .limit)
+add-stop c = let a = c .before .before .before .before .before .before .before .before .before .before .before .before .before .args in let q = fits (a .v) (a .f) (a .r) (a .keep) (now (a .list)) (now (a .shared)) (now (a .table)) _ (c .before .before .fallocate-refusal .ensures) (c .before .if1 .left) in omega (arith, q .limit)
 
 -- src/lib.rt:184:9
 end-change-requires : tie.Need-end-change-requires
-end-change-requires c κs = let a = c .before .before .before .before .before .before .before .before .before .before .before .before .before .args in let q = fits (a .v) (a .f) (a .r) (a .keep) (now (a .list)) (now (a .shared)) (now (a .table)) (sym (c .before .before .fallocate-refusal .ensures) ∙ c .before .if1 .left) in (q .sector, q .size)
+end-change-requires c κs = let a = c .before .before .before .before .before .before .before .before .before .before .before .before .before .args in let q = fits (a .v) (a .f) (a .r) (a .keep) (now (a .list)) (now (a .shared)) (now (a .table)) _ (c .before .before .fallocate-refusal .ensures) (c .before .if1 .left) in (q .sector, q .size)
 
 -- src/lib.rt:185:9
 fill-of-requires : tie.Need-fill-of-requires
-fill-of-requires c κs = let a = c .before .before .before .before .before .before .before .before .before .before .before .before .before .before .args in let q = fits (a .v) (a .f) (a .r) (a .keep) (now (a .list)) (now (a .shared)) (now (a .table)) (sym (c .before .before .before .fallocate-refusal .ensures) ∙ c .before .before .if1 .left) in (q .sector, q .limit)
+fill-of-requires c κs = let a = c .before .before .before .before .before .before .before .before .before .before .before .before .before .before .args in let q = fits (a .v) (a .f) (a .r) (a .keep) (now (a .list)) (now (a .shared)) (now (a .table)) _ (c .before .before .before .fallocate-refusal .ensures) (c .before .before .if1 .left) in (q .sector, q .limit)
 
 -- src/lib.rt:181:5
 change-range-requires : tie.Need-change-range-requires
-change-range-requires c κs = let a = c .before .before .before .before .before .before .before .before .before .before .before .before .before .before .before .before .before .before .before .before .before .args in asked-now (a .v) (a .f) (a .r) (a .keep) (now (a .list)) (now (a .shared)) (now (a .table)) (sym (c .before .before .before .before .before .before .before .before .before .before .fallocate-refusal .ensures) ∙ c .before .before .before .before .before .before .before .before .before .if1 .left) _ _ (c .before .before .before .before .before .before .before .end-change .ensures) (c .before .before .before .before .before .before .fill-of .ensures)
+change-range-requires c κs = let a = c .before .before .before .before .before .before .before .before .before .before .before .before .before .before .before .before .before .before .before .before .before .args in asked-now (a .v) (a .f) (a .r) (a .keep) (now (a .list)) (now (a .shared)) (now (a .table)) _ (c .before .before .before .before .before .before .before .before .before .before .fallocate-refusal .ensures) (c .before .before .before .before .before .before .before .before .before .if1 .left) _ _ (c .before .before .before .before .before .before .before .end-change .ensures) (c .before .before .before .before .before .before .fill-of .ensures)
 
 -- src/lib.rt:158:1
 same-length : tie.Need-same-length
@@ -63,7 +62,7 @@ same-length-6 c = search needs
 
 -- src/lib.rt:158:1
 returns-2 : tie.Need-returns-2
-returns-2 c = let a = c .before .before .before .before .before .before .before .before .before .before .before .before .before .before .before .before .before .before .before .before .before .before .before .before .before .before .before .before .before .before .before .before .before .before .args in rw (fallocate-changed (a .v) (a .f) (a .r) (a .keep) (now (a .list)) (now (a .shared)) (now (a .table)) _ _ (sym (c .before .before .before .before .before .before .before .before .before .before .before .before .before .before .before .before .before .before .before .before .before .before .before .fallocate-refusal .ensures) ∙ c .before .before .before .before .before .before .before .before .before .before .before .before .before .before .before .before .before .before .before .before .before .before .if1 .left) _ _ (c .before .before .before .before .before .before .before .before .before .before .before .before .before .before .before .before .before .before .before .before .end-change .ensures) (c .before .before .before .before .before .before .before .before .before .before .before .before .before .before .before .before .before .before .before .fill-of .ensures)) (c .before .before .before .before .before .before .before .before .before .before .before .before .change-range .ensures)
+returns-2 c = let a = c .before .before .before .before .before .before .before .before .before .before .before .before .before .before .before .before .before .before .before .before .before .before .before .before .before .before .before .before .before .before .before .before .before .before .args in rw (fallocate-changed (a .v) (a .f) (a .r) (a .keep) (now (a .list)) (now (a .shared)) (now (a .table)) _ _ _ (c .before .before .before .before .before .before .before .before .before .before .before .before .before .before .before .before .before .before .before .before .before .before .before .fallocate-refusal .ensures) (c .before .before .before .before .before .before .before .before .before .before .before .before .before .before .before .before .before .before .before .before .before .before .if1 .left) _ _ (c .before .before .before .before .before .before .before .before .before .before .before .before .before .before .before .before .before .before .before .before .end-change .ensures) (c .before .before .before .before .before .before .before .before .before .before .before .before .before .before .before .before .before .before .before .fill-of .ensures)) (c .before .before .before .before .before .before .before .before .before .before .before .before .change-range .ensures)
 
 pub fallocate-spec : {M : Type 1} → statement M
 fallocate-spec =
