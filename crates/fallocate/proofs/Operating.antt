@@ -24,7 +24,7 @@ use Rattle.change.specs.Rewrites.{groundOf}
 use Rattle.change.specs.Changes.{Change, changed}
 use Rattle.change.specs.Sweep.{filledOf}
 use Rattle.change.proofs.Fair.{Fair}
-use Rattle.ranges.specs.Raw.{Asked}
+use Rattle.drafts.specs.Raw.{Asked}
 use Rattle.punch.specs.Raw.{rangeLent}
 use Rattle.punch.proofs.Planned.{records-ranged, ground-items, ground-sound}
 use Rattle.punch.proofs.Operating.{Passed, passed, shares-many, two-refused, refuses, passes}

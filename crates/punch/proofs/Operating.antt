@@ -29,7 +29,7 @@ use Rattle.change.specs.Rewrites.{groundOf}
 use Rattle.change.specs.Changes.{Change, changeOf, changed}
 use Rattle.change.specs.Sweep.{filledOf}
 use Rattle.change.proofs.Sweep.{punch-swept}
-use Rattle.ranges.specs.Raw.{Asked}
+use Rattle.drafts.specs.Raw.{Asked}
 use Rattle.punch.specs.Punch.{planPunch, rangeRefusal, punch, punchLent}
 use Rattle.punch.specs.Raw.{rangeLent}
 use Rattle.punch.proofs.Planned.{records-ranged, ground-items, ground-sound}

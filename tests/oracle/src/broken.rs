@@ -1,6 +1,6 @@
 // Broken lent bytes: refusals 1 to 4 against a plain reading of document 01; what passes goes to the Rust.
 use crate::gen::{self, Rng};
-use crate::oracle::{self, Op, Outcome};
+use crate::oracle::{self, Outcome, Request};
 use crate::{ours, text};
 use std::collections::BTreeMap;
 
@@ -31,15 +31,15 @@ fn lent(sector: u64, size: u64, ino: u64, list: &[u8], shared: &[u8], table: &[u
     0
 }
 fn put(b: &mut [u8], at: usize, v: u64) { b[at..at + 8].copy_from_slice(&v.to_le_bytes()); }
-pub fn fuzz(seed: u64, count: u64) {
+pub fn fuzz(make: fn(&mut Rng) -> Request, seed: u64, count: u64) {
     std::panic::set_hook(Box::new(|_| {}));
     let mut g = Rng(seed.wrapping_mul(0x5234_5678_9abc_def1));
     let mut n: BTreeMap<String, u64> = BTreeMap::new();
     let (mut diffs, mut shown) = (0u64, 0);
     for i in 0..count {
-        let mut r = gen::request(&mut g);
+        let mut r = make(&mut g);
         let (_, wanted) = oracle::run(&r);
-        let places = gen::places(&mut g, &r, wanted.len());
+        let places = gen::places(&mut g, &r, &wanted);
         r.facts.places = Some(places.clone());
         let f = r.facts.files[0].clone();
         let mut list = ours::list_bytes(f.ino, &f.items);
@@ -90,9 +90,8 @@ pub fn fuzz(seed: u64, count: u64) {
             }
         }
         let due = lent(sector, size, f.ino, &list, &shared, &table);
-        let Op::Punch(o, len) = r.op else { unreachable!() };
-        let k = 2 * (list.len() / 70) + 16;
-        let (us, bad) = ours::raw(sector, r.total, r.facts.generation, r.facts.snapshot, f.ino, size, f.nodatacow, o, len, &list, &shared, &table, &places, [71 * k, 2 * k, 2 * k, 2 * k, 30, 40]);
+        let k = 2 * (list.len() / 70) + 16 + places.len();
+        let (us, bad) = ours::raw(sector, r.total, r.facts.generation, r.facts.snapshot, f.ino, size, f.nodatacow, r.op, &list, &shared, &table, &places, [71 * k, 2 * k, 2 * k, 2 * k, 3 * k, 40]);
         let theirs = if due != 0 { Outcome::Refused(due) } else {
             r.sector = sector;
             let x = &mut r.facts.files[0];

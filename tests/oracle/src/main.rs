@@ -1,5 +1,6 @@
 // oracle text: extplan's input to its output, as the Rust plans it. With our side linked (cfg ours): oracle fuzz SEED COUNT
-// compares the two on random well-kept lists, oracle bytes SEED COUNT on broken bytes.
+// compares the two on random well-kept lists, oracle bytes SEED COUNT on broken bytes; a last word `fallocate` makes the
+// requests fallocates, else they are punches. oracle large SEED COUNT makes both, on lists about 65,536 records long.
 mod stubs;
 pub use stubs::*;
 #[path = "../sources/clone.rs"]
@@ -28,12 +29,16 @@ mod fuzz;
 mod broken;
 fn main() {
     let a: Vec<String> = std::env::args().collect();
+    #[cfg(ours)]
+    let make = if a.get(4).is_some_and(|w| w == "fallocate") { gen::fallocate } else { gen::punch };
     match a.get(1).map(|s| s.as_str()) {
         #[cfg(ours)]
-        Some("fuzz") => fuzz::fuzz(a[2].parse().unwrap(), a[3].parse().unwrap()),
+        Some("fuzz") => fuzz::fuzz(make, a[2].parse().unwrap(), a[3].parse().unwrap()),
         #[cfg(ours)]
-        Some("bytes") => broken::fuzz(a[2].parse().unwrap(), a[3].parse().unwrap()),
+        Some("large") => fuzz::fuzz(gen::large, a[2].parse().unwrap(), a[3].parse().unwrap()),
+        #[cfg(ours)]
+        Some("bytes") => broken::fuzz(make, a[2].parse().unwrap(), a[3].parse().unwrap()),
         Some("text") => read::run(),
-        _ => eprintln!("oracle fuzz SEED COUNT | oracle text <INPUT (requests parted by a line ---)"),
+        _ => eprintln!("oracle fuzz|bytes SEED COUNT [fallocate] | oracle large SEED COUNT | oracle text <INPUT (requests parted by a line ---)"),
     }
 }

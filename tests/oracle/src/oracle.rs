@@ -82,8 +82,9 @@ fn plan_of(r: &Request, c: Captured) -> Outcome {
     Outcome::Plan(p)
 }
 
-/// The outcome, and the lengths asked of the allocator.
+/// The outcome, and the lengths asked of the allocator. A list over-long is 1, which is not the Rust's.
 pub fn run(r: &Request) -> (Outcome, Vec<u64>) {
+    if r.facts.files[0].items.len() > 65536 { return (Outcome::Refused(1), Vec::new()); }
     let got = std::panic::catch_unwind(|| {
         let mut fs = Filesystem {
             writable: Some(()), subvolume_writes: None, fs_tree_root: 0, facts: r.facts.clone(), captured: Default::default(),

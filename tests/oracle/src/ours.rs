@@ -1,8 +1,15 @@
-// Our side: the proved punch, linked from libffi.a (crate `ffi`: numbers in, an answer and nine numbers out).
+// Our side: the proved punch and fallocate, linked from libffi.a (crate `ffi`: numbers in, an answer and nine numbers out).
 use crate::oracle::{Op, Outcome, Plan, Request};
 extern "C" {
     fn zag_punch(
         sector: u64, total: u64, generation: u64, snapshot: u64, number: u64, size: u64, nodatacow: bool, offset: u64, length: u64,
+        list: *const u8, list_n: u64, shared: *const u8, shared_n: u64, table: *const u64, table_n: u64, places: *const u64, places_n: u64,
+        edits: *mut u8, edits_n: u64, shares: *mut u64, shares_n: u64, unrefs: *mut u64, unrefs_n: u64,
+        releases: *mut u64, releases_n: u64, adds: *mut u64, adds_n: u64, writes: *mut u64, writes_n: u64,
+        answer: *mut u64, answer_n: u64,
+    ) -> u8;
+    fn zag_fallocate(
+        sector: u64, total: u64, generation: u64, snapshot: u64, number: u64, size: u64, nodatacow: bool, offset: u64, length: u64, keep: bool,
         list: *const u8, list_n: u64, shared: *const u8, shared_n: u64, table: *const u64, table_n: u64, places: *const u64, places_n: u64,
         edits: *mut u8, edits_n: u64, shares: *mut u64, shares_n: u64, unrefs: *mut u64, unrefs_n: u64,
         releases: *mut u64, releases_n: u64, adds: *mut u64, adds_n: u64, writes: *mut u64, writes_n: u64,
@@ -22,12 +29,11 @@ pub fn run(r: &Request, rooms: [usize; 6]) -> (Outcome, Option<String>) {
     let list = list_bytes(f.ino, &f.items);
     let table: Vec<u64> = r.facts.rows.iter().flatten().copied().collect();
     let places = r.facts.places.clone().unwrap_or_default();
-    let Op::Punch(offset, length) = r.op else { panic!("a punch") };
-    raw(r.sector, r.total, r.facts.generation, r.facts.snapshot, f.ino, f.size, f.nodatacow, offset, length, &list, &f.shared, &table, &places, rooms)
+    raw(r.sector, r.total, r.facts.generation, r.facts.snapshot, f.ino, f.size, f.nodatacow, r.op, &list, &f.shared, &table, &places, rooms)
 }
 #[allow(clippy::too_many_arguments)]
 pub fn raw(
-    sector: u64, total: u64, generation: u64, snapshot: u64, ino: u64, size: u64, nodatacow: bool, offset: u64, length: u64,
+    sector: u64, total: u64, generation: u64, snapshot: u64, ino: u64, size: u64, nodatacow: bool, op: Op,
     list: &[u8], shared: &[u8], table: &[u64], places: &[u64], rooms: [usize; 6],
 ) -> (Outcome, Option<String>) {
     let mut e = vec![E; rooms[0]];
@@ -35,12 +41,21 @@ pub fn raw(
     let mut a = vec![W; 9];
     let code = unsafe {
         let p: Vec<*mut u64> = o.iter_mut().map(|v| v.as_mut_ptr()).collect();
-        zag_punch(
-            sector, total, generation, snapshot, ino, size, nodatacow, offset, length,
-            list.as_ptr(), list.len() as u64, shared.as_ptr(), shared.len() as u64, table.as_ptr(), table.len() as u64, places.as_ptr(), places.len() as u64,
-            e.as_mut_ptr(), rooms[0] as u64, p[0], rooms[1] as u64, p[1], rooms[2] as u64, p[2], rooms[3] as u64, p[3], rooms[4] as u64, p[4], rooms[5] as u64,
-            a.as_mut_ptr(), 9,
-        )
+        macro_rules! call {
+            ($f:ident, $offset:expr, $length:expr $(, $keep:expr)?) => {
+                $f(
+                    sector, total, generation, snapshot, ino, size, nodatacow, $offset, $length $(, $keep)?,
+                    list.as_ptr(), list.len() as u64, shared.as_ptr(), shared.len() as u64, table.as_ptr(), table.len() as u64, places.as_ptr(), places.len() as u64,
+                    e.as_mut_ptr(), rooms[0] as u64, p[0], rooms[1] as u64, p[1], rooms[2] as u64, p[2], rooms[3] as u64, p[3], rooms[4] as u64, p[4], rooms[5] as u64,
+                    a.as_mut_ptr(), 9,
+                )
+            };
+        }
+        match op {
+            Op::Punch(o, n) => call!(zag_punch, o, n),
+            Op::Fallocate(o, n, keep) => call!(zag_fallocate, o, n, keep),
+            Op::Clone(..) => panic!("no clone yet"),
+        }
     };
     let untouched = |from: [usize; 6]| -> Option<String> {
         if e[from[0]..].iter().any(|b| *b != E) { return Some("edits past the plan changed".into()); }

@@ -1,6 +1,7 @@
 use denote.Ref.{now}
-use Rattle.ranges.proofs.Finish.{started, refused-told, planned-told, met-refused}
-use Rattle.ranges.specs.Raw.{draftSaid}
+use Rattle.drafts.proofs.Drafting.{started, refused-told, planned-told}
+use Rattle.ranges.proofs.Finish.{met-refused}
+use Rattle.drafts.specs.Raw.{draftSaid}
 use Rattle.item.specs.Items.{items}
 use native.Mathlib.Omega.{arith}
 use mathlib.Core.Path.{_∙_, sym, ap}
@@ -10,7 +11,7 @@ use Rattle.ranges.proofs.change_range.Tie as tie
 use Rattle.ranges.proofs.change_range.Reads as reads
 use Rattle.ranges.proofs.change_range.Lts as lts
 use Rattle.changing.proofs.parts_of.Reads as parts-of-reads
-use Rattle.ranges.proofs.draft_change.Reads as draft-change-reads
+use Rattle.drafts.proofs.draft_change.Reads as draft-change-reads
 use Rattle.ranges.proofs.finish_change.Reads as finish-change-reads
 
 -- src/lib.rt:334:9

@@ -1,5 +1,6 @@
 use denote.Ref.{now}
-use Rattle.ranges.proofs.Finish.{ends-now, adds-many, finish-refused, places-sound, rooms-fit, finish-planned}
+use Rattle.drafts.proofs.Drafting.{ends-now}
+use Rattle.ranges.proofs.Finish.{adds-many, finish-refused, places-sound, rooms-fit, finish-planned}
 use Rattle.plan.specs.Outputs.{outs}
 use borrow.Author.Needs.{needs}
 use Rattle.ranges.proofs.finish_change.Statement.{statement}

@@ -1,6 +1,7 @@
 use denote.Ref.{now}
 use mathlib.Core.Path.{refl}
-use Rattle.ranges.proofs.Finish.{passed, ends-now, sides-most, wishes-places, order-at, part-fits, part-inside, pieced-at, written-at}
+use Rattle.drafts.proofs.Drafting.{passed, ends-now, sides-most}
+use Rattle.ranges.proofs.Finish.{wishes-places, order-at, part-fits, part-inside, pieced-at, written-at}
 use Rattle.changing.specs.Sides.{frontNew, backNew}
 use Rattle.plan.specs.Outputs.{outs}
 use native.Mathlib.Omega.{arith}
@@ -13,7 +14,7 @@ use Rattle.adds.proofs.put_adds.Reads as put-adds-reads
 use Rattle.changing.proofs.front_new.Reads as front-new-reads
 use Rattle.laying.proofs.lay_plan.Reads as lay-plan-reads
 use Rattle.ranges.proofs.place_at.Reads as place-at-reads
-use Rattle.ranges.proofs.sectors_anew.Reads as sectors-anew-reads
+use Rattle.drafts.proofs.sectors_anew.Reads as sectors-anew-reads
 use Rattle.records.proofs.counted.Reads as counted-reads
 
 -- src/lib.rt:232:9

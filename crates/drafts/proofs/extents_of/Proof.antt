@@ -1,13 +1,13 @@
-use Rattle.ranges.proofs.Finish.{sides-told}
+use Rattle.drafts.proofs.Drafting.{sides-told}
 use mathlib.Core.Path.{_∙_, sym}
 use borrow.Author.Needs.{needs}
-use Rattle.ranges.proofs.extents_of.Statement.{statement}
-use Rattle.ranges.proofs.extents_of.Tie as tie
-use Rattle.ranges.proofs.extents_of.Reads as reads
-use Rattle.ranges.proofs.extents_of.Lts as lts
+use Rattle.drafts.proofs.extents_of.Statement.{statement}
+use Rattle.drafts.proofs.extents_of.Tie as tie
+use Rattle.drafts.proofs.extents_of.Reads as reads
+use Rattle.drafts.proofs.extents_of.Lts as lts
 use Rattle.changing.proofs.back_new.Reads as back-new-reads
 use Rattle.changing.proofs.front_new.Reads as front-new-reads
-use Rattle.ranges.proofs.side_of.Reads as side-of-reads
+use Rattle.drafts.proofs.side_of.Reads as side-of-reads
 
 -- src/lib.rt:124:22
 front-new-requires : tie.Need-front-new-requires

@@ -1,9 +1,9 @@
 use native.Mathlib.Omega.{arith}
 use mathlib.Core.Path.{refl}
-use Rattle.ranges.proofs.side_of.Statement.{statement}
-use Rattle.ranges.proofs.side_of.Tie as tie
-use Rattle.ranges.proofs.side_of.Reads as reads
-use Rattle.ranges.proofs.side_of.Lts as lts
+use Rattle.drafts.proofs.side_of.Statement.{statement}
+use Rattle.drafts.proofs.side_of.Tie as tie
+use Rattle.drafts.proofs.side_of.Reads as reads
+use Rattle.drafts.proofs.side_of.Lts as lts
 
 -- src/lib.rt:108:19
 add-t6 : tie.Need-add-t6

@@ -1,10 +1,10 @@
 use denote.Ref.{now}
-use Rattle.ranges.proofs.Finish.{none-pieced, none-counted}
+use Rattle.drafts.proofs.Drafting.{none-pieced, none-counted}
 use borrow.Author.Needs.{needs}
-use Rattle.ranges.proofs.count_plan.Statement.{statement}
-use Rattle.ranges.proofs.count_plan.Tie as tie
-use Rattle.ranges.proofs.count_plan.Reads as reads
-use Rattle.ranges.proofs.count_plan.Lts as lts
+use Rattle.drafts.proofs.count_plan.Statement.{statement}
+use Rattle.drafts.proofs.count_plan.Tie as tie
+use Rattle.drafts.proofs.count_plan.Reads as reads
+use Rattle.drafts.proofs.count_plan.Lts as lts
 use Rattle.laying.proofs.lay_plan.Reads as lay-plan-reads
 
 -- src/lib.rt:81:9

@@ -1,17 +1,17 @@
 use denote.Ref.{now}
 use borrow.Author.Needs.{needs}
-use Rattle.ranges.proofs.Finish.{passed, refusal-same, base-fair, started, ends-now, draft-refused, holes-fit, draft-planned, numbers-fit, sides-fit}
+use Rattle.drafts.proofs.Drafting.{passed, refusal-same, base-fair, started, ends-now, draft-refused, holes-fit, draft-planned, numbers-fit, sides-fit}
 use native.Mathlib.Omega.{arith}
 use mathlib.Core.Path.{_∙_, sym}
-use Rattle.ranges.proofs.draft_change.Statement.{statement}
-use Rattle.ranges.proofs.draft_change.Tie as tie
-use Rattle.ranges.proofs.draft_change.Reads as reads
-use Rattle.ranges.proofs.draft_change.Lts as lts
+use Rattle.drafts.proofs.draft_change.Statement.{statement}
+use Rattle.drafts.proofs.draft_change.Tie as tie
+use Rattle.drafts.proofs.draft_change.Reads as reads
+use Rattle.drafts.proofs.draft_change.Lts as lts
 use Rattle.holes.proofs.sum_holes.Reads as sum-holes-reads
-use Rattle.ranges.proofs.count_plan.Reads as count-plan-reads
-use Rattle.ranges.proofs.extents_of.Reads as extents-of-reads
-use Rattle.ranges.proofs.numbers_of.Reads as numbers-of-reads
-use Rattle.ranges.proofs.sectors_anew.Reads as sectors-anew-reads
+use Rattle.drafts.proofs.count_plan.Reads as count-plan-reads
+use Rattle.drafts.proofs.extents_of.Reads as extents-of-reads
+use Rattle.drafts.proofs.numbers_of.Reads as numbers-of-reads
+use Rattle.drafts.proofs.sectors_anew.Reads as sectors-anew-reads
 use Rattle.refusals.proofs.change_refusal.Reads as change-refusal-reads
 
 -- src/lib.rt:167:9

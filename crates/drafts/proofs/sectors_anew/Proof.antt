@@ -1,10 +1,10 @@
-use Rattle.ranges.proofs.Finish.{two-counted, one-few}
+use Rattle.drafts.proofs.Drafting.{two-counted, one-few}
 use native.Mathlib.Omega.{arith}
 use borrow.Author.Needs.{needs}
-use Rattle.ranges.proofs.sectors_anew.Statement.{statement}
-use Rattle.ranges.proofs.sectors_anew.Tie as tie
-use Rattle.ranges.proofs.sectors_anew.Reads as reads
-use Rattle.ranges.proofs.sectors_anew.Lts as lts
+use Rattle.drafts.proofs.sectors_anew.Statement.{statement}
+use Rattle.drafts.proofs.sectors_anew.Tie as tie
+use Rattle.drafts.proofs.sectors_anew.Reads as reads
+use Rattle.drafts.proofs.sectors_anew.Lts as lts
 use Rattle.changing.proofs.back_new.Reads as back-new-reads
 use Rattle.changing.proofs.front_new.Reads as front-new-reads
 use Rattle.records.proofs.counted.Reads as counted-reads

@@ -46,7 +46,7 @@ use Rattle.changing.specs.Sides.{frontNew, backNew, sides, wantedAt}
 use Rattle.changing.proofs.Sides.{wanted-sides, anew-sides}
 use Rattle.changing.proofs.Edited.{after-kept}
 use Rattle.laying.specs.Laid.{Pieced}
-use Rattle.ranges.specs.Raw.{sideOf, extentsOf, countsOf, numbersOf}
+use Rattle.drafts.specs.Raw.{sideOf, extentsOf, countsOf, numbersOf}
 
 new-length : (g : Ground) (qs : List ℕ) (ws : List Wanted) → length qs ≡ length ws → length (newItems g qs ws) ≡ length ws
 unfolding newItems
