@@ -20,6 +20,8 @@ use Rattle.plan.specs.Outputs.{Rooms, refNumbers, addNumbers, writeNumbers}
 use Rattle.change.specs.Rounding.{roundDown, roundUp}
 use Rattle.change.specs.Preallocs.{Span, pieceLimit, piecesFrom, preallocPieces}
 use Rattle.change.specs.Rewrites.{Ground, holderOf, eachInPlace}
+use Rattle.change.specs.Sweep.{gapsFrom, filledOf}
+use Rattle.change.specs.declared.Rewrite.{Rewrite}
 use Rattle.change.specs.Changes.{Change, newItems, writesAnew, piecesWritten, piecesJoined, drops, changeRefusal, piecesAfter, changed}
 
 -- ---- rounding and pieces
@@ -248,3 +250,28 @@ unfolding numbers rounded pieces piecesFrom cuts writes joins refusals item exte
     flatMap keep any count every pairs first firstOf stage findFrom insert insertAll cutPieces countedBytes joinAround joinAll edits insertRef sorted without minus dueOf
     refusedOr placed placesSound holderOf eachInPlace newItems writesAnew piecesWritten piecesJoined drops changeRefusal piecesAfter changed
 right = (refl, refl, refl, refl, refl)
+
+-- ---- holes
+
+-- the holes of [1024, 20480) in a file with items at [4096, 8192) and [12288, 16384), but for [lo, hi), and the new size
+filled : (lo hi : ℕ) → List ℕ
+filled lo hi =
+    told
+    (filledOf
+    (record { lo = lo; hi = hi; «has_front» = false; front = none; «has_back» = false; back = none })
+    (record { from = 1024; to = 20480; size = 9000 })
+    (map (λ (h : Held). h .item) (item 1 4096 0 4096 0 ∷ item 1 12288 8192 4096 0 ∷ [])))
+  where
+    none : Rewrite
+    none = record { sector = 0; first = 0; end = 0 }
+
+    told : Change → List ℕ
+    told c = c .size ∷ flatMap (λ (s : Span). s .start ∷ s .length ∷ []) (c .holes)
+
+sweeps : map (λ (r : ℕ × ℕ). filled (r .0) (r .1)) ((0, 0) ∷ (2048, 3072) ∷ (8192, 12288) ∷ [])
+    ≡ (9000 ∷ 1024 ∷ 3072 ∷ 8192 ∷ 4096 ∷ 16384 ∷ 4096 ∷ [])
+    ∷ (9000 ∷ 1024 ∷ 1024 ∷ 3072 ∷ 1024 ∷ 8192 ∷ 4096 ∷ 16384 ∷ 4096 ∷ [])
+    ∷ (9000 ∷ 1024 ∷ 3072 ∷ 16384 ∷ 4096 ∷ [])
+    ∷ []
+unfolding filled item gapsFrom flatMap keep
+sweeps = refl
