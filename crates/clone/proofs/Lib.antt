@@ -1,3 +1,5 @@
+pub mod Asking
+pub mod Sources
 pub mod Examples
 pub mod Planned
 pub mod Items

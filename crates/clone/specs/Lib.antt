@@ -1,1 +1,2 @@
 pub mod Clone
+pub mod Raw

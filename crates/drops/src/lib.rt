@@ -45,7 +45,7 @@ fn is_dropped(c: Cut, item: Item) -> bool
 }
 
 // Whether an item's window lies inside the extent, if it is not compressed.
-fn window_sound(item: Item, row: Row) -> bool
+pub fn window_sound(item: Item, row: Row) -> bool
     ensures { λ r. ⌜ r ≡ windowSound (fields item) row ⌝ }
 {
     either(

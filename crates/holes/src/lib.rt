@@ -1,8 +1,9 @@
 // The new extents that a change wants, one behind the other: sectors written anew, then the pieces of the holes of a
 // stretch of the file, found by one sweep along the list. Nothing is stored: the nth stretch is worked out from two records.
+use records::smaller;
 ghost use mathlib.Core.Path.{_≡_};
 ghost use mathlib.Core.List.{flatMap};
-ghost use Prim.Native.Nat.{_+_, _-_, _*_, _≤_, _<_, _^_, min, max};
+ghost use Prim.Native.Nat.{_+_, _*_, _≤_, _<_, _^_};
 ghost use lib.ListN.{length, getD};
 ghost use Rattle.item.specs.Items.{items};
 ghost use Rattle.change.specs.Preallocs.{pieceLimit, pieceCount, preallocPieces};
@@ -30,12 +31,6 @@ pub struct NewExtents {
 pub struct Cursor {
     pub rest: Stretch,
     pub next: usize,
-}
-
-fn smaller(a: u64, b: u64) -> u64
-    ensures { λ r. ⌜ r ≡ min a b ⌝ }
-{
-    if a < b { a } else { b }
 }
 
 fn length_of(s: Stretch) -> u64

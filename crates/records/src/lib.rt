@@ -2,7 +2,7 @@
 // A test written with these functions is one expression without branches, so its proof is found unasked.
 ghost use mathlib.Core.Path.{_≡_};
 ghost use mathlib.Core.Bool.{_&&_, _||_, cond};
-ghost use Prim.Native.Nat.{_+_, _^_, _<_, max};
+ghost use Prim.Native.Nat.{_+_, _^_, _<_, max, min};
 ghost use lib.Dec.{eqb, leb, ltb};
 ghost use Rattle.records.specs.Stages.{first, unless};
 
@@ -81,6 +81,13 @@ pub fn larger(a: u64, b: u64) -> u64
     ensures { λ r. ⌜ r ≡ max a b ⌝ }
 {
     if a < b { b } else { a }
+}
+
+// The smaller of two numbers.
+pub fn smaller(a: u64, b: u64) -> u64
+    ensures { λ r. ⌜ r ≡ min a b ⌝ }
+{
+    if a < b { a } else { b }
 }
 
 // One of two numbers, by a test.
