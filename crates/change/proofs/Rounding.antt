@@ -1,12 +1,11 @@
 -- The laws of rounding to sectors. Assumes nothing.
 use mathlib.Core.Path.{_≡_, refl, ap, _∙_, sym}
-use mathlib.Core.Bool.{Bool, true, false, _||_}
+use mathlib.Core.Bool.{true}
 use Prim.Native.Nat.{ℕ, suc, _+_, _-_, _*_, _/_, _%_, _^_, _<_, _≤_}
 use native.Mathlib.Omega.{arith}
 use native.Mathlib.Nat.{suc-mul, le-of-suc-le-suc, div-add-mod', div-mul-le-self, lt-div-mul-add, mul-mod-left, mul-le-mul-right, div-lt-iff-lt-mul, le-div-iff-mul-le, add-mod-right}
-use lib.Dec.{eqb}
-use borrow.Author.Tests.{eqb-true}
 use Rattle.request.specs.Lent.{sectorSound}
+use Rattle.request.proofs.Stages.{sector-is}
 use Rattle.change.specs.Rounding.{roundDown, roundUp}
 
 module _ (s : ℕ) (pos : 0 < s) where
@@ -96,17 +95,10 @@ module _ (s : ℕ) (pos : 0 < s) where
   pub up-limit : 2 ^ 63 % s ≡ 0 → (x : ℕ) → x < 2 ^ 63 → roundUp s x ≤ 2 ^ 63
   up-limit w x l = up-first x (2 ^ 63) w (omega arith)
 
+-- a sector is from 1 to 65,536 bytes
+pub sector-range : (s : ℕ) → sectorSound s ≡ true → (0 < s) × (s ≤ 65536)
+sector-range = sector-is (λ (s : ℕ). (0 < s) × (s ≤ 65536)) (omega arith, omega arith) (omega arith, omega arith) (omega arith, omega arith) (omega arith, omega arith) (omega arith, omega arith)
+
 -- every sector that a request may have divides 2^63
 pub sector-limit : (s : ℕ) → sectorSound s ≡ true → (0 < s) × (2 ^ 63 % s ≡ 0)
-sector-limit s =
-    or (eqb s (2 ^ 12)) _ (is (2 ^ 12) (omega arith, refl))
-    (or (eqb s (2 ^ 13)) _ (is (2 ^ 13) (omega arith, refl))
-    (or (eqb s (2 ^ 14)) _ (is (2 ^ 14) (omega arith, refl))
-    (or (eqb s (2 ^ 15)) _ (is (2 ^ 15) (omega arith, refl)) (is (2 ^ 16) (omega arith, refl)))))
-  where
-    is : (n : ℕ) → (0 < n) × (2 ^ 63 % n ≡ 0) → eqb s n ≡ true → (0 < s) × (2 ^ 63 % s ≡ 0)
-    is n p e = rw (eqb-true s n e) p
-
-    or : {P : Type 0} (a b : Bool) → (a ≡ true → P) → (b ≡ true → P) → (a || b) ≡ true → P
-    or true b f g h = f refl
-    or false b f g h = g h
+sector-limit = sector-is (λ (s : ℕ). (0 < s) × (2 ^ 63 % s ≡ 0)) (omega arith, refl) (omega arith, refl) (omega arith, refl) (omega arith, refl) (omega arith, refl)

@@ -12,7 +12,7 @@ use Rattle.records.proofs.Tests.{same, ltb-suc, first-last}
 use Rattle.item.specs.Items.{items}
 use Rattle.item.proofs.Laws.{items-length}
 use Rattle.request.specs.Lent.{sectorSound}
-use Rattle.request.proofs.Stages.{sector-is}
+use Rattle.change.proofs.Rounding.{sector-range}
 use Rattle.clone.specs.Clone.{spanOf, sourceRefusal, destinationRefusal, growthRefusal}
 
 -- ---- numbers
@@ -27,7 +27,7 @@ left-leb m a b =
 -- the end of an offset's sector fits 64 bits
 pub sector-fits : (s x : ℕ) → sectorSound s ≡ true → x < 2 ^ 63 → (0 < s) × (x + s < 2 ^ 64)
 sector-fits s x h l =
-    let b = sector-is (λ (s : ℕ). (0 < s) × (s ≤ 65536)) (omega arith, omega arith) (omega arith, omega arith) (omega arith, omega arith) (omega arith, omega arith) (omega arith, omega arith) s h in
+    let b = sector-range s h in
     (b .0, omega (arith, b .1))
 
 -- ---- stages, as the code groups them

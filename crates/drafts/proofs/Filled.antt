@@ -16,7 +16,6 @@ use Rattle.lists.proofs.Laws.{Kept}
 use Rattle.request.specs.declared.Volume.{Volume}
 use Rattle.request.specs.declared.Numbers.{Numbers}
 use Rattle.request.specs.Lent.{sectorSound}
-use Rattle.request.proofs.Stages.{sector-is}
 use Rattle.cut.specs.Pieces.{Piece, itemsOf, insertAll, countedBytes}
 use Rattle.cut.specs.Edits.{Edit, edits}
 use Rattle.cut.proofs.Inserts.{edits-count, inserted-fresh}
@@ -34,6 +33,7 @@ use Rattle.change.specs.Sweep.{upTo, sumOf, sweep, filledOf}
 use Rattle.change.proofs.Fair.{Fair}
 use Rattle.change.proofs.Sweep.{sum-some}
 use Rattle.change.proofs.Preallocs.{limit-whole}
+use Rattle.change.proofs.Rounding.{sector-range}
 use Rattle.change.proofs.News.{sectorWanted, pieceWanted}
 use Rattle.change.proofs.Filled.{bare, bare-fair, bare-wanted, bare-joined, after-parts, writes-part, bytes-filled, mark-filled, pieces-rise, pieces-fresh, holes-below}
 use Rattle.holes.specs.declared.NewExtents.{NewExtents}
@@ -70,9 +70,9 @@ some-pieces (s ∷ ss) = go (ltb 0 (s .length)) refl (some-pieces ss)
 
 side-pieces : (v : Volume) → sectorSound (v .sector) ≡ true → (b : Bool) (g : Ground) → g .sector ≡ v .sector → (r : Rewrite) → preallocPieces pieceLimit (spanOf (sideOf b (v .sector) r)) ≡ map spanFor (only b (wantedAt g r))
 side-pieces v ok true g e r =
-    let few : (0 < v .sector) × (v .sector ≤ pieceLimit) = sector-is (λ (s : ℕ). (0 < s) × (s ≤ pieceLimit)) (omega arith, omega arith) (omega arith, omega arith) (omega arith, omega arith) (omega arith, omega arith) (omega arith, omega arith) (v .sector) ok in
+    let few = sector-range (v .sector) ok in
     let n : r .sector + v .sector - r .sector ≡ v .sector = omega arith in
-    let one : preallocPieces pieceLimit (record { start = r .sector; length = v .sector }) ≡ record { start = r .sector; length = v .sector } ∷ [] = single (record { start = r .sector; length = v .sector }) (few .0) (few .1) in
+    let one : preallocPieces pieceLimit (record { start = r .sector; length = v .sector }) ≡ record { start = r .sector; length = v .sector } ∷ [] = single (record { start = r .sector; length = v .sector }) (few .0) (omega (arith, few .1)) in
     rw (n, one, e) refl
   where
     single : (s : Span) → 0 < s .length → s .length ≤ pieceLimit → preallocPieces pieceLimit s ≡ s ∷ []

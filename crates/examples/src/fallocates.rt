@@ -139,7 +139,7 @@ fn worked() {
     );
 }
 
-// The size at the end of a sector, and inside one: then that sector is rewritten if the range ends past the size.
+// The size at the end of a sector: it is moved, or kept.
 fn sizes() {
     alloc(b"past the size", false, 1, 16384, 16384, 5000, &[4194304]);
     alloc(
@@ -151,6 +151,10 @@ fn sizes() {
         5000,
         &[4194304],
     );
+}
+
+// The size inside a sector, which is rewritten if the range ends past the size.
+fn old_ends() {
     alloc(
         b"old end",
         false,
@@ -178,6 +182,10 @@ fn sizes() {
         8000,
         &[4194304],
     );
+}
+
+// Its sector outside the range, the range up to the size and one byte past it, and no item at all.
+fn old_end_edges() {
     alloc(
         b"old end outside",
         false,
@@ -341,6 +349,8 @@ fn largest() {
 pub fn all() {
     worked();
     sizes();
+    old_ends();
+    old_end_edges();
     between_items();
     item_refusals();
     volume_refusals();

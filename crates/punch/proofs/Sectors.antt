@@ -11,7 +11,6 @@ use borrow.Author.Tests.{ltb-true}
 use Rattle.records.proofs.Tests.{both-right}
 use Rattle.item.specs.Items.{Fields}
 use Rattle.request.specs.Lent.{sectorSound}
-use Rattle.request.proofs.Stages.{sector-is}
 use Rattle.cut.specs.Mappings.{holder}
 use Rattle.refs.specs.Drops.{Held, held}
 use Rattle.refs.proofs.Drops.{held-items}
@@ -20,7 +19,7 @@ use Rattle.change.specs.Rewrites.{holderOf, whenHeld}
 use Rattle.change.specs.Changes.{Change, changeOf}
 use Rattle.change.specs.declared.Rewrite.{Rewrite}
 use Rattle.change.proofs.Rewrites.{holder-item}
-use Rattle.change.proofs.Rounding.{down-below}
+use Rattle.change.proofs.Rounding.{down-below, sector-range}
 use Rattle.rewrites.specs.declared.Holder.{Holder}
 use Rattle.rewrites.specs.Raw.{heldIn, holderIn}
 use Rattle.punch.specs.Punch.{firstHeld, startIn, heldBy, inOneSector, withinSector, acrossSectors, punchChange, changeFrom, planPunch}
@@ -35,7 +34,7 @@ pub record Fitting (s x : ℕ) : Type 0 where
 
 pub fitting : (s x : ℕ) → sectorSound s ≡ true → x < 2 ^ 63 → Fitting s x
 fitting s x h l =
-    let b = sector-is (λ (s : ℕ). (0 < s) × (s ≤ 65536)) (omega arith, omega arith) (omega arith, omega arith) (omega arith, omega arith) (omega arith, omega arith) (omega arith, omega arith) s h in
+    let b = sector-range s h in
     record { positive = b .0; up = omega arith; next = omega (arith, down-below s (b .0) x) }
 
 -- whether a search finds an item
