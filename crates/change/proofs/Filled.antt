@@ -23,11 +23,10 @@ use Rattle.cut.specs.Pieces.{Piece, itemsOf, insert, insertAll, countedBytes}
 use Rattle.cut.proofs.Bytes.{insert-bytes}
 use Rattle.plan.specs.Plans.{Write}
 use Rattle.plan.specs.Places.{Wanted}
-use Rattle.change.specs.Preallocs.{Span, pieceCount, nthPiece, piecesFrom, preallocPieces}
+use Rattle.change.specs.Preallocs.{Span, pieceCount, nthPiece, piecesFrom, preallocPieces, sumOf}
 use Rattle.change.specs.declared.Rewrite.{Rewrite}
 use Rattle.change.specs.Rewrites.{Ground, rewrittenAnew}
 use Rattle.change.specs.Changes.{Change, before, newItems, writesAnew, piecesWritten, piecesJoined, drops, changeRefusal, sectorsWanted, piecesWanted, wanted, piecesAfter}
-use Rattle.change.specs.Sweep.{sumOf}
 use Rattle.change.proofs.Preallocs.{piece-some, piece-inside}
 use Rattle.change.proofs.Rounding.{up-above}
 use Rattle.change.proofs.Fair.{Fair, holeInside, holesRise}

@@ -12,8 +12,8 @@ use Rattle.records.proofs.Tests.{both}
 use Rattle.records.proofs.Lists.{every-flat}
 use Rattle.records.proofs.Picks.{keep-none}
 use Rattle.item.specs.Items.{Fields, end}
-use Rattle.change.specs.Preallocs.{Span}
-use Rattle.change.specs.Sweep.{upTo, sumOf, gapsFrom, gaps, halves, sweep, holesIn}
+use Rattle.change.specs.Preallocs.{Span, sumOf}
+use Rattle.change.specs.Sweep.{upTo, gapsFrom, gaps, halves, sweep, holesIn}
 
 -- a stretch has bytes
 abbrev pub some : Span → Bool

@@ -8,6 +8,11 @@ pub record Span : Type 0 where
   pub start : ℕ
   pub length : ℕ
 
+-- how many bytes some have
+unfoldable pub sumOf : List Span → ℕ
+sumOf [] = 0
+sumOf (s ∷ ss) = s .length + sumOf ss
+
 abbrev pub pieceLimit : ℕ
 pieceLimit = 268435456
 

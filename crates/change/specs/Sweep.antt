@@ -13,10 +13,6 @@ use Rattle.change.specs.Changes.{Change}
 abbrev pub upTo : ℕ → ℕ → Span
 upTo a b = record { start = a; length = b - a }
 
-unfoldable pub sumOf : List Span → ℕ
-sumOf [] = 0
-sumOf (s ∷ ss) = s .length + sumOf ss
-
 module _ (from to : ℕ) where
   -- the gaps of [from, to) before, between and behind items, the first of them from a; some may be empty
   unfoldable pub gapsFrom : ℕ → List Fields → List Span

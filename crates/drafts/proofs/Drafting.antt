@@ -29,9 +29,9 @@ use Rattle.edits.specs.Pieced.{addsIn, pieceItems}
 use Rattle.change.specs.declared.RangeChange.{RangeChange}
 use Rattle.change.specs.declared.Fill.{Fill}
 use Rattle.change.specs.Rewrites.{Ground, rewriteRefusal}
-use Rattle.change.specs.Preallocs.{Span, pieceLimit, preallocPieces}
+use Rattle.change.specs.Preallocs.{Span, pieceLimit, preallocPieces, sumOf}
 use Rattle.change.specs.Changes.{Change, Drafted, spanFor, before as itemsBefore, changeOf, changeRefusal, sectorsWanted, piecesWanted, wanted, planOf, changed, drafted}
-use Rattle.change.specs.Sweep.{sumOf, sweep, filledOf}
+use Rattle.change.specs.Sweep.{sweep, filledOf}
 use Rattle.change.proofs.Fair.{Fair}
 use Rattle.change.proofs.Drafts.{numbers-most, ones-some}
 use Rattle.change.proofs.Filled.{bare-fair, bare-refusal, holes-below}

@@ -27,9 +27,9 @@ use Rattle.change.specs.declared.RangeChange.{RangeChange}
 use Rattle.change.specs.declared.Fill.{Fill}
 use Rattle.change.specs.declared.Rewrite.{Rewrite}
 use Rattle.change.specs.Rewrites.{Ground, rewrittenAnew, writeInPlace, eachInPlace}
-use Rattle.change.specs.Preallocs.{Span, pieceLimit, preallocPieces}
+use Rattle.change.specs.Preallocs.{Span, pieceLimit, preallocPieces, sumOf}
 use Rattle.change.specs.Changes.{Change, changeOf, before, newItems, writesAnew, piecesJoined, piecesWritten, drops, sectorsWanted, piecesWanted, wanted, piecesAfter, planOf, spanFor}
-use Rattle.change.specs.Sweep.{upTo, sumOf, sweep, filledOf}
+use Rattle.change.specs.Sweep.{upTo, sweep, filledOf}
 use Rattle.change.proofs.Fair.{Fair}
 use Rattle.change.proofs.Sweep.{sum-some}
 use Rattle.change.proofs.Preallocs.{limit-whole}

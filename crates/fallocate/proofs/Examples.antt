@@ -19,11 +19,10 @@ use Rattle.refs.specs.Compared.{insertRef, sorted, without, minus}
 use Rattle.refs.specs.Drops.{held, dueOf}
 use Rattle.plan.specs.Plans.{Plan, Add, Write, refusedOr}
 use Rattle.plan.specs.Places.{placed, placesSound}
-use Rattle.change.specs.Preallocs.{Span, piecesFrom}
+use Rattle.change.specs.Preallocs.{Span, piecesFrom, sumOf}
 use Rattle.change.specs.Rewrites.{holderOf, eachInPlace}
 use Rattle.change.specs.Changes.{newItems, writesAnew, piecesWritten, piecesJoined, drops, changeRefusal, piecesAfter, changed}
 use Rattle.punch.specs.Punch.{rangeRefusal}
-use Rattle.change.specs.Sweep.{sumOf}
 use Rattle.fallocate.specs.Fallocate.{lessItems, holesToAllocate, fallocateRefusal, fallocate}
 
 item : (kind key position length : ℕ) → Fields

@@ -18,13 +18,12 @@ use Rattle.request.specs.declared.Range.{Range}
 use Rattle.table.specs.declared.Row.{Row}
 use Rattle.plan.specs.Plans.{Plan}
 use Rattle.change.specs.Rounding.{roundDown}
-use Rattle.change.specs.Preallocs.{Span}
+use Rattle.change.specs.Preallocs.{Span, sumOf}
 use Rattle.change.specs.declared.Rewrite.{Rewrite}
 use Rattle.change.specs.Rewrites.{Ground, itemsHeld}
 use Rattle.change.specs.Changes.{Change}
 use Rattle.change.proofs.Fair.{Sound, Fair, rewriteInside, rewritesRise, holeInside}
 use Rattle.change.proofs.Rounding.{down-whole, down-next, up-limit, sector-limit}
-use Rattle.change.specs.Sweep.{sumOf}
 use Rattle.fallocate.specs.Fallocate.{endRewritten, from, to, endSector, endStop, holesToAllocate, fallocateChange}
 use Rattle.fallocate.proofs.Less.{between, clearOf, wholeItem, wholeSpan}
 use Rattle.fallocate.proofs.Holes.{end-order, end-whole, holes-whole, holes-free, holes-clear, holes-between, holes-apart, holes-sum}

@@ -14,10 +14,9 @@ use Rattle.records.proofs.Lists.{every-true}
 use Rattle.records.proofs.Wholes.{sub-whole}
 use Rattle.item.specs.Items.{Fields}
 use Rattle.change.specs.Rounding.{roundDown}
-use Rattle.change.specs.Preallocs.{Span}
+use Rattle.change.specs.Preallocs.{Span, sumOf}
 use Rattle.change.proofs.Fair.{holeFree, holesRise}
 use Rattle.change.proofs.Rounding.{down-below, down-whole, up-above, up-whole}
-use Rattle.change.specs.Sweep.{sumOf}
 use Rattle.fallocate.specs.Fallocate.{endRewritten, less, lessItems, from, to, endSector, endStop, holesToAllocate}
 use Rattle.fallocate.proofs.Less.{within, within-true, within-facts, without-true, without-facts, inside, over, inside-less, inside-lessItems, Rising, rising-less, rising-lessItems, between, rising-between, rising-pairs, rising-sum, clearOf, clear-told, less-clear, lessItems-free, free-less, wholes-told, wholeSpan, wholeItem, whole-less, whole-lessItems}
 

@@ -15,9 +15,8 @@ use Rattle.records.proofs.Lists.{every-true, every-append, any-appended}
 use Rattle.records.proofs.Wholes.{add-whole, sub-whole, min-whole, max-whole}
 use Rattle.item.specs.Items.{Fields, end}
 use Rattle.cut.proofs.Kept.{clear}
-use Rattle.change.specs.Preallocs.{Span}
+use Rattle.change.specs.Preallocs.{Span, sumOf}
 use Rattle.change.proofs.Fair.{holeFree, holesRise}
-use Rattle.change.specs.Sweep.{sumOf}
 use Rattle.fallocate.specs.Fallocate.{less, lessItems}
 
 -- ---- offsets of a range

@@ -24,13 +24,12 @@ use Rattle.plan.specs.Plans.{Plan}
 use Rattle.plan.specs.Places.{placesSound}
 use Rattle.plan.specs.Outputs.{Rooms}
 use Rattle.plan.proofs.Outcomes.{refusedOr-plan, plan-same}
-use Rattle.change.specs.Preallocs.{pieceLimit}
+use Rattle.change.specs.Preallocs.{pieceLimit, sumOf}
 use Rattle.change.specs.Rewrites.{groundOf, Ground}
 use Rattle.change.specs.Changes.{Change, wanted, planOf, changeRefusal, changed}
 use Rattle.change.proofs.Fair.{Sound}
 use Rattle.punch.specs.Punch.{rangeRefusal}
 use Rattle.punch.proofs.Planned.{records-ranged}
-use Rattle.change.specs.Sweep.{sumOf}
 use Rattle.fallocate.specs.Fallocate.{from, to, endSector, endStop, itemRefusal, holesToAllocate, fallocateChange, fallocateRefusal, fallocate}
 use Rattle.fallocate.proofs.Less.{inside, over, within, within-facts, without-facts}
 use Rattle.fallocate.proofs.Holes.{hole-told}

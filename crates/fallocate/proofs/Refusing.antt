@@ -17,9 +17,10 @@ use Rattle.request.specs.Lent.{sectorSound, listBroken, tableBroken}
 use Rattle.request.proofs.Stages.{sector-some}
 use Rattle.segment.specs.Segments.{Runs}
 use Rattle.segment.proofs.Segments.{kept-runs}
+use Rattle.change.specs.Preallocs.{sumOf}
 use Rattle.change.specs.declared.RangeChange.{RangeChange}
 use Rattle.change.specs.declared.Fill.{Fill}
-use Rattle.change.specs.Sweep.{sumOf, sweep}
+use Rattle.change.specs.Sweep.{sweep}
 use Rattle.change.proofs.Rounding.{up-limit, sector-limit}
 use Rattle.change.proofs.Sweep.{sum-some}
 use Rattle.punch.specs.Punch.{rangeRefusal}

@@ -19,11 +19,10 @@ use Rattle.cut.specs.Mappings.{Mapping}
 use Rattle.plan.specs.Plans.{Plan, refusedOr}
 use Rattle.plan.specs.Outputs.{Rooms}
 use Rattle.change.specs.Rounding.{roundDown, roundUp}
-use Rattle.change.specs.Preallocs.{Span, pieceLimit}
+use Rattle.change.specs.Preallocs.{Span, pieceLimit, sumOf}
 use Rattle.change.specs.declared.Rewrite.{Rewrite}
 use Rattle.change.specs.Changes.{Change, changed}
 use Rattle.change.specs.Rewrites.{groundOf}
-use Rattle.change.specs.Sweep.{sumOf}
 use Rattle.punch.specs.Punch.{rangeRefusal}
 
 -- "rewrites the sector of an old end inside a sector, zeroing from the size on, when the range ends past the size,

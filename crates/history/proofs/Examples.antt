@@ -20,11 +20,10 @@ use Rattle.refs.specs.Compared.{insertRef, sorted, without, minus}
 use Rattle.refs.specs.Drops.{held, dueOf}
 use Rattle.plan.specs.Plans.{refusedOr}
 use Rattle.plan.specs.Places.{placed, placesSound}
-use Rattle.change.specs.Preallocs.{piecesFrom}
+use Rattle.change.specs.Preallocs.{piecesFrom, sumOf}
 use Rattle.change.specs.Rewrites.{holderOf, eachInPlace}
 use Rattle.change.specs.Changes.{newItems, writesAnew, piecesWritten, piecesJoined, drops, changeRefusal, piecesAfter, changed}
 use Rattle.punch.specs.Punch.{firstHeld, planPunch, rangeRefusal, punch}
-use Rattle.change.specs.Sweep.{sumOf}
 use Rattle.fallocate.specs.Fallocate.{lessItems, holesToAllocate, fallocateRefusal, fallocate}
 use Rattle.clone.specs.Clone.{lentAndSource, cloneRefusal, clone, piecesAfter as clonePieces}
 use Rattle.apply.specs.Apply.{insertRow, insertRows, rowsAfter, applyRefusal, apply}

@@ -8,8 +8,7 @@ use native.Mathlib.Decide.{decLt}
 use native.Mathlib.Numerals.{add-one}
 use lib.ListN.{length, drop, getD, length-append, drop-of-length-le}
 use lib.Seq.{drop-cons}
-use Rattle.change.specs.Preallocs.{Span, pieceLimit, pieceCount, piecesFrom, preallocPieces}
-use Rattle.change.specs.Sweep.{sumOf}
+use Rattle.change.specs.Preallocs.{Span, pieceLimit, pieceCount, piecesFrom, preallocPieces, sumOf}
 use Rattle.change.proofs.Preallocs.{pieces-length}
 
 -- no piece of nothing

@@ -6,8 +6,8 @@ ghost use mathlib.Core.List.{flatMap};
 ghost use Prim.Native.Nat.{_+_, _*_, _≤_, _<_, _^_};
 ghost use lib.ListN.{length, getD};
 ghost use Rattle.item.specs.Items.{items};
-ghost use Rattle.change.specs.Preallocs.{pieceLimit, pieceCount, preallocPieces};
-ghost use Rattle.change.specs.Sweep.{upTo, sumOf, sweep};
+ghost use Rattle.change.specs.Preallocs.{pieceLimit, pieceCount, preallocPieces, sumOf};
+ghost use Rattle.change.specs.Sweep.{upTo, sweep};
 ghost use Rattle.holes.specs.Walk.{Ends, spanOf, gapStart, gapStop, stretches, wishes, left, Settled, Walked};
 
 // A stretch of a file from `start` up to `stop`; empty where `stop` is not past `start`.
