@@ -1,7 +1,7 @@
 #!/bin/sh
 # build.sh SOURCES [LIB]: builds the oracle from the port's source (the folder with fallocate.rs, clone.rs, write.rs and
-# cow_write.rs of rust-fs-btrfs) into oracle/, once without and once with overflow checks. LIB, if given, is the folder of a static library
-# libffi.a that has `zag_punch` and `zag_fallocate` (src/ours.rs says how they are called): then the comparisons are built too.
+# cow_write.rs of rust-fs-btrfs) into its own folder, once without and once with overflow checks. LIB, if given, is the folder of
+# libffi.a, which `rt staticlib ffi` writes to target/staticlib: then the comparisons with our side (src/ours.rs) are built too.
 set -eu
 sources=$(cd "$1" && pwd)
 lib=${2:+$(cd "$2" && pwd)}

@@ -1,5 +1,2 @@
-pub mod Rows
-pub mod Table
-pub mod Adds
-pub mod Refusals
-pub mod Examples
+pub mod Accepted
+pub mod Whole

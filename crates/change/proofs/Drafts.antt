@@ -24,6 +24,7 @@ use Rattle.cut.specs.Pieces.{Piece, made, kept, itemsOf, cutPieces, insert, ins
 use Rattle.cut.specs.Joins.{joinable, joinNext, past, joinAround, joinAll}
 use Rattle.cut.specs.Refs.{Ref, refOf}
 use Rattle.cut.specs.Edits.{Edit, puts, delete, below, edits}
+use Rattle.cut.proofs.Inserts.{insertAll-length}
 use Rattle.refs.proofs.Compared.{compared-most}
 use Rattle.refs.specs.Compared.{among, comparedUnrefs}
 use Rattle.refs.specs.Drops.{Held, dropsOf, lines, released, releases, unrefs}
@@ -228,20 +229,6 @@ edits-most (f ∷ fs) ps =
     )
 
 -- ---- of the pieces
-
-insert-length : (x : Fields) (ps : List Piece) → length (insert x ps) ≡ suc (length ps)
-unfolding insert
-insert-length x [] = refl
-insert-length x (p ∷ ps) = go (ltb (x .key) (p .item .key)) (insert-length x ps)
-  where
-    go : (b : Bool) → length (insert x ps) ≡ suc (length ps) → length (cond b (made x ∷ p ∷ ps) (p ∷ insert x ps)) ≡ suc (suc (length ps))
-    go true h = refl
-    go false h = ap suc h
-
-insertAll-length : (xs : List Fields) (ps : List Piece) → length (insertAll xs ps) ≡ length xs + length ps
-unfolding insertAll
-insertAll-length [] ps = omega arith
-insertAll-length (x ∷ xs) ps = omega (arith, insertAll-length xs (insert x ps), insert-length x ps)
 
 -- a cut leaves two pieces of an item at most
 cut-most : (lo hi : ℕ) (fs : List Fields) → length (cutPieces lo hi fs) ≤ 2 * length fs

@@ -3,7 +3,7 @@
 use mathlib.Core.Bool.{Bool, true, _&&_, _||_}
 use mathlib.Core.List.{List}
 use mathlib.Core.Path.{_≡_}
-use Prim.Native.Nat.{ℕ, _+_, _%_, _≤_, _^_}
+use Prim.Native.Nat.{_+_, _%_, _≤_, _^_}
 use lib.Dec.{eqb, leb}
 use Rattle.records.specs.Stages.{every, pairs}
 use Rattle.item.specs.Items.{Fields, ranged}

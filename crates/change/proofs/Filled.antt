@@ -1,7 +1,7 @@
 -- A change that fills holes, by the same change without holes: what it cuts, rewrites and joins is the same, and the pieces of
 -- the holes come in behind. Assumes nothing.
 use mathlib.Core.Path.{_≡_, refl, ap, _∙_, sym}
-use mathlib.Core.Bool.{Bool, true, false, _&&_, _||_, not, cond}
+use mathlib.Core.Bool.{Bool, true, false, _&&_, not}
 use mathlib.Core.List.{List, [], _∷_, _++_, map, flatMap, append-nil}
 use Prim.Native.Nat.{ℕ, zero, suc, _+_, _-_, _*_, _<_, _≤_, _^_}
 use native.Mathlib.Omega.{arith}
@@ -9,7 +9,7 @@ use native.Mathlib.Nat.{add-mul, one-mul}
 use lib.Dec.{eqb, leb, ltb}
 use lib.ListN.{length, length-map}
 use borrow.Author.Tests.{ne-eqb, not-true, le-leb, leb-true, lt-ltb}
-use Rattle.records.specs.Select.{any, keep}
+use Rattle.records.specs.Select.{any}
 use Rattle.records.specs.Stages.{every, pairs}
 use Rattle.records.proofs.Tests.{both, both-left, both-right, every-map, every-both}
 use Rattle.records.proofs.Lists.{every-true}
@@ -20,7 +20,7 @@ use Rattle.lists.proofs.Order.{item-ranged}
 use Rattle.cut.proofs.Kept.{clear}
 use Rattle.plan.specs.Plans.{Add}
 use Rattle.cut.specs.Pieces.{Piece, itemsOf, insert, insertAll, countedBytes}
-use Rattle.cut.proofs.Bytes.{insert-bytes}
+use Rattle.cut.proofs.Bytes.{insertAll-bytes}
 use Rattle.plan.specs.Plans.{Write}
 use Rattle.plan.specs.Places.{Wanted}
 use Rattle.change.specs.Preallocs.{Span, pieceCount, nthPiece, piecesFrom, preallocPieces, sumOf}
@@ -98,11 +98,6 @@ after-parts size g c limit ps qs h =
     rw (new-parts g ps qs (sectorsWanted g c limit) (piecesWanted g c limit) h, insert-parts (newItems g ps (sectorsWanted g c limit)) (newItems g qs (piecesWanted g c limit)) (piecesJoined g c), bare-wanted size g c limit, bare-joined size g c) refl
 
 -- ---- bytes
-
-insertAll-bytes : (xs : List Fields) (ps : List Piece) → countedBytes (itemsOf (insertAll xs ps)) ≡ countedBytes xs + countedBytes (itemsOf ps)
-unfolding insertAll countedBytes
-insertAll-bytes [] ps = omega arith
-insertAll-bytes (x ∷ xs) ps = omega (arith, insertAll-bytes xs (insert x ps), insert-bytes x ps)
 
 pub sum-append : (ss ts : List Span) → sumOf (ss ++ ts) ≡ sumOf ss + sumOf ts
 unfolding sumOf

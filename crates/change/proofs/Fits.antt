@@ -10,7 +10,6 @@ use Rattle.records.specs.Stages.{stage, every, pairs}
 use Rattle.records.specs.Select.{any}
 use Rattle.records.proofs.Tests.{both, both-left, both-right, firstOf-zero, every-map, every-keep}
 use Rattle.records.proofs.Lists.{any-some, every-append, stage-none}
-use Rattle.table.specs.declared.Row.{Row}
 use Rattle.table.specs.Rows.{find, oneMoreReference}
 use Rattle.cut.specs.Refs.{Ref}
 use Rattle.cut.specs.Pieces.{itemsOf}

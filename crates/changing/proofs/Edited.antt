@@ -1,13 +1,13 @@
 -- A list where a segment stands for a part of it: its edits and bytes, and that a change's lists are well kept. Assumes nothing.
-use mathlib.Core.Path.{_≡_, refl, ap₂, _∙_}
-use mathlib.Core.Bool.{Bool, true, false, not}
-use mathlib.Core.List.{List, [], _∷_, _++_, map, map-append, map-map, map-id}
+use mathlib.Core.Path.{_≡_, refl}
+use mathlib.Core.Bool.{Bool, true, not}
+use mathlib.Core.List.{List, _++_, map}
 use Prim.Native.Nat.{ℕ, _+_, _-_, _%_, _^_, _≤_, _<_}
 use native.Mathlib.Omega.{arith}
 use lib.Dec.{eqb}
 use lib.ListN.{take, drop, take-append-drop}
 use Rattle.records.specs.Stages.{every, pairs}
-use Rattle.records.proofs.Tests.{both, both-left, both-right, every-map}
+use Rattle.records.proofs.Tests.{every-map}
 use Rattle.records.proofs.Lists.{every-true, every-parts, pairs-parts}
 use Rattle.item.specs.Items.{Fields, ranged}
 use Rattle.lists.specs.Lists.{itemSound, rises, apart}
@@ -19,7 +19,7 @@ use Rattle.cut.proofs.Kept.{clear-apart, kept-from, from-keeps, from-insertAll,
 use Rattle.segment.specs.declared.Segment.{Segment}
 use Rattle.records.proofs.Lists.{pairs-drop}
 use Rattle.cut.proofs.Inserts.{fresh, inserted-rises}
-use Rattle.edits.proofs.Replaced.{items-made, items-replaced}
+use Rattle.merge.proofs.Replaced.{items-made, items-replaced}
 use Rattle.edits.proofs.Filled.{edits-filled}
 use Rattle.plan.specs.Plans.{Add}
 use Rattle.plan.specs.Places.{Wanted}

@@ -1,5 +1,4 @@
 pub mod Puts
 pub mod Sides
-pub mod Spans
 pub mod Edited
 pub mod Planned

@@ -11,9 +11,9 @@ use Rattle.item.specs.Items.{Fields, items, end}
 use Rattle.cut.specs.Pieces.{Piece, insert, insertAll, cutPieces}
 use Rattle.cut.specs.Joins.{joinAround, joinAll}
 use Rattle.segment.specs.declared.Segment.{Segment}
-use Rattle.segment.specs.Segments.{Good, Around, Cutting, Inserted, Joining, itemAt}
+use Rattle.segment.specs.Segments.{Good, Around, Cutting, Inserted, itemAt}
 use Rattle.segment.proofs.Inserting.{inserted-pieces, inserted-good, inserted-around, inserted-first, inserted-lower}
-use Rattle.segment.proofs.Joining.{joining-around}
+use Rattle.joins.proofs.Joining.{joining-around}
 use Rattle.request.specs.declared.Volume.{Volume}
 use Rattle.request.specs.declared.File.{File}
 use Rattle.change.specs.declared.Rewrite.{Rewrite}

@@ -1,5 +1,5 @@
 -- A change's lists by its two sectors: which are written in place, and which take a new extent. Assumes nothing.
-use mathlib.Core.Path.{_≡_, refl, ap, ap₂, _∙_, sym}
+use mathlib.Core.Path.{_≡_, refl, ap₂, _∙_}
 use mathlib.Core.Bool.{Bool, true, false, cond, _&&_, not}
 use mathlib.Core.List.{List, [], _∷_, _++_, map, flatMap, append-nil}
 use mathlib.Core.Option.{none, some}
@@ -10,7 +10,6 @@ use Rattle.records.specs.Select.{only, keep}
 use Rattle.records.proofs.Lists.{flat-append}
 use Rattle.records.proofs.Picks.{keep-append, only-few}
 use Rattle.refs.specs.Drops.{Held}
-use Rattle.plan.specs.Places.{Wanted}
 use Rattle.change.specs.declared.Rewrite.{Rewrite}
 use Rattle.change.specs.declared.RangeChange.{RangeChange}
 use Rattle.change.specs.Rewrites.{Ground, whenHeld, preallocated, inPlace, eachInPlace, rewrittenAnew}

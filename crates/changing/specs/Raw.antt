@@ -9,7 +9,8 @@ use Rattle.lists.specs.Lists.{rangeSound}
 use Rattle.cut.specs.Mappings.{holds}
 use Rattle.cut.specs.Pieces.{Piece}
 use Rattle.segment.specs.declared.Segment.{Segment}
-use Rattle.segment.specs.Segments.{Runs, Good, Around, Inserted, Joining, pieces}
+use Rattle.segment.specs.Segments.{Runs, Good, Around, Inserted, pieces}
+use Rattle.joins.specs.Joins.{Joining}
 use Rattle.refs.specs.Drops.{Held}
 use Rattle.request.specs.declared.Volume.{Volume}
 use Rattle.request.specs.declared.File.{File}

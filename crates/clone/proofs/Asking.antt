@@ -1,81 +1,65 @@
--- What the code refuses is what the definitions say. Assumes nothing.
-use mathlib.Core.Path.{_≡_, refl}
-use mathlib.Core.Bool.{Bool, true, false, _&&_, _||_, not}
-use mathlib.Core.List.{List}
-use Prim.Native.Nat.{ℕ, _+_, _-_, _/_, _%_, _<_, _≤_, _^_}
-use native.Mathlib.Omega.{arith}
-use lib.Dec.{eqb, leb, ltb}
+-- The stages of a clone, as the code groups them. Assumes nothing.
+use mathlib.Core.Path.{_≡_, refl, ap, _∙_, sym}
+use mathlib.Core.Bool.{Bool, not}
+use mathlib.Core.List.{List, map}
+use Prim.Native.Nat.{ℕ, _-_, _<_, _^_}
+use lib.Dec.{eqb}
 use lib.ListN.{length}
-use borrow.Author.Tests.{leb-true, le-leb}
-use Rattle.records.specs.Stages.{unless, first, firstOf}
-use Rattle.records.proofs.Tests.{same, ltb-suc, first-last}
-use Rattle.item.specs.Items.{items}
-use Rattle.item.proofs.Laws.{items-length}
-use Rattle.request.specs.Lent.{sectorSound}
-use Rattle.change.proofs.Rounding.{sector-range}
-use Rattle.clone.specs.Clone.{spanOf, sourceRefusal, destinationRefusal, growthRefusal}
+use Rattle.records.specs.Stages.{unless, first, stage}
+use Rattle.item.specs.Items.{Fields, items}
+use Rattle.spans.specs.Spans.{resolved, spanOf, sourceRefusal, destinationRefusal, destinationRecord, growthRefusal}
+use Rattle.records.specs.Select.{keep}
+use Rattle.records.proofs.Tests.{first-stop, first-go, first-zero}
+use Rattle.table.specs.declared.Row.{Row}
+use Rattle.table.specs.Rows.{rows, oneMoreReference}
+use Rattle.request.specs.declared.Volume.{Volume}
+use Rattle.request.specs.declared.File.{File}
+use Rattle.request.specs.Lent.{lentRefusal2, lent2}
+use Rattle.request.proofs.Stages.{accepted2, sector-some}
+use Rattle.cut.specs.Cuts.{split}
+use Rattle.cut.specs.Refs.{Ref, refOf}
+use Rattle.refs.specs.Drops.{dropsRefusal}
+use Rattle.drops.specs.declared.Cut.{Cut}
+use Rattle.drops.specs.Dropped.{dropsIn}
+use Rattle.drops.proofs.Cuts.{drops-plain}
+use Rattle.copies.specs.declared.Copying.{Copying}
+use Rattle.copies.specs.Copies.{sourceRecord}
+use Rattle.copies.specs.Replacing.{top, dropsOf}
+use Rattle.cloning.specs.Raw.{cutFor}
+use Rattle.spans.specs.declared.Span.{Span}
+use Rattle.clone.specs.Raw.{meant, copyingOf, lentAsked, destinationAsked, copiesAsked}
 
--- ---- numbers
+pub meant-told : (size : ℕ) (s : Span) (l : ℕ) → l ≡ resolved size (s .from) (s .length) → _≡_ {A = Span} (record { from = s .from; to = s .to; length = l }) (meant size s)
+meant-told size s l e = λ i. record { from = s .from; to = s .to; length = e i }
 
--- a sum against a limit, by what is left of the limit
-left-leb : (m a b : ℕ) → leb (m - a) b ≡ leb m (a + b)
-left-leb m a b =
-    same (leb (m - a) b) (leb m (a + b))
-    (λ e. let p = leb-true (m - a) b e in le-leb m (a + b) (omega arith))
-    (λ e. let p = leb-true m (a + b) e in le-leb (m - a) b (omega arith))
+pub copying-told : (sector number : ℕ) (s : Span) (w : ℕ) → w ≡ spanOf sector (s .from) (s .length) → _≡_ {A = Copying} (record { number = number; from = s .from; to = s .to; span = w }) (copyingOf sector number s)
+copying-told sector number s w e = λ i. record { number = number; from = s .from; to = s .to; span = e i }
 
--- the end of an offset's sector fits 64 bits
-pub sector-fits : (s x : ℕ) → sectorSound s ≡ true → x < 2 ^ 63 → (0 < s) × (x + s < 2 ^ 64)
-sector-fits s x h l =
-    let b = sector-range s h in
-    (b .0, omega (arith, b .1))
+pub asked-told :
+    (sector : ℕ) (own : Bool) (size : ℕ) (s : Span) (fs : List Fields) (a b d x why : ℕ)
+    → a ≡ destinationRefusal sector own 0 size (s .from) (s .to) (s .length) → b ≡ growthRefusal sector size (s .to) (s .length) fs → d ≡ stage destinationRecord fs
+    → x ≡ first d b → why ≡ first a x → why ≡ destinationAsked sector own size s fs
+asked-told sector own size s fs a b d x why pa pb pd px p = rw (p, px, pa, pb, pd) refl
 
--- ---- stages, as the code groups them
+module _ (v : Volume) (dst src : File) (own : Bool) (s : Span) (list shared source table : List ℕ) (a : ℕ) (ea : a ≡ lent2 v dst src own list shared source table) where
+  pub lent-stop : (a ≡ 0 → ⊥) → a ≡ lentAsked v dst src own s list shared source table
+  lent-stop z = first-stop a _ z ∙ ap (λ (x : ℕ). first x (sourceRefusal (v .sector) own (src .size) (dst .size) (s .from) (s .to) (s .length))) ea
 
-module _ (sector size from to len : ℕ) where
-  pub source-told :
-      (a b c d x y why : ℕ) (t u v w : Bool)
-      → a ≡ unless (leb from size) 19
-      → t ≡ leb (from + len) size
-      → b ≡ unless t 20
-      → u ≡ (eqb (from % sector) 0 && eqb (to % sector) 0)
-      → c ≡ unless u 21
-      → v ≡ eqb (from + len) size
-      → w ≡ (eqb (len % sector) 0 || v)
-      → d ≡ unless w 22
-      → x ≡ first c d
-      → y ≡ first b x
-      → why ≡ first a y
-      → why ≡ sourceRefusal sector false size 0 from to len
-  unfolding firstOf
-  source-told a b c d x y why t u v w pa pt pb pu pc pv pw pd px py p = rw (p, py, px, pa, pb, pc, pd, pt, pu, pw, pv, first-last) refl
+  pub lent-go : a ≡ 0 → (x : ℕ) → x ≡ sourceRefusal (v .sector) own (src .size) (dst .size) (s .from) (s .to) (s .length) → x ≡ lentAsked v dst src own s list shared source table
+  lent-go z x e = e ∙ sym (first-go (lent2 v dst src own list shared source table) _ (sym ea ∙ z))
 
-  pub destination-told :
-      (own : Bool) (span a g b d x why : ℕ) (t u v₁ v₂ v w : Bool)
-      → span ≡ spanOf sector from len
-      → t ≡ leb (to + len) 9223372036854775807
-      → a ≡ unless t 6
-      → g ≡ size - to
-      → u ≡ (eqb (len % sector) 0 || leb g len)
-      → v₁ ≡ leb (to + span) from
-      → v₂ ≡ leb (from + span) to
-      → v ≡ (v₁ || v₂)
-      → b ≡ unless u 23
-      → w ≡ (not own || v)
-      → d ≡ unless w 24
-      → x ≡ first b d
-      → why ≡ first a x
-      → why ≡ destinationRefusal sector own 0 size from to len
-  unfolding firstOf
-  destination-told own span a g b d x why t u v₁ v₂ v w ps pt pa pg pu p₁ p₂ pv pb pw pd px p =
-      let l : ltb (to + len) (2 ^ 63) ≡ leb (to + len) 9223372036854775807 = ltb-suc (to + len) 9223372036854775807 in
-      rw (p, px, pa, pb, pd, pt, pu, pw, pv, p₁, p₂, pg, ps, left-leb, l, first-last) refl
+  pub lent-sector : a ≡ 0 → 0 < v .sector
+  lent-sector z = sector-some (v .sector) (accepted2 v dst src own (items list) shared (items source) (rows table) (first-zero _ (lentRefusal2 v dst src own (items list) shared (items source) (rows table)) (sym ea ∙ z) .1) .destination .sector)
 
-pub growth-told :
-    (sector size to len : ℕ) (list : List ℕ) (t u v : Bool) (why : ℕ)
-    → t ≡ leb (to + len) size
-    → u ≡ (eqb (size % sector) 0 || eqb (length list / 70) 0)
-    → v ≡ (t || u)
-    → why ≡ unless v 25
-    → why ≡ growthRefusal sector size to len (items list)
-growth-told sector size to len list t u v why pt pu pv p = rw (p, pv, pt, pu, items-length) refl
+pub copies-told :
+    (generation : ℕ) (c : Copying) (k : Cut) (fs source : List Fields) (rs : List Row) (d p r l x y why : ℕ)
+    → k ≡ cutFor c
+    → ((bs : List ℕ) → length bs ≡ length fs → d ≡ dropsRefusal rs (dropsIn k fs bs))
+    → p ≡ stage (λ (q : Ref). oneMoreReference (q .start) rs) (map refOf (keep (split (k .lo) (k .hi)) fs))
+    → r ≡ stage (sourceRecord rs c) source
+    → l ≡ unless (not (eqb generation (2 ^ 64 - 1))) 13
+    → x ≡ first r l → y ≡ first p x → why ≡ first d y
+    → (bs : List ℕ) → length bs ≡ length fs → why ≡ copiesAsked generation c fs bs source rs
+copies-told generation c k fs source rs d p r l x y why ek ed ep er el ex ey e bs n =
+    let u : dropsOf c fs bs ≡ dropsIn k fs bs = rw ek (drops-plain (c .to) (top c) fs bs) in
+    rw (e, ey, ex, el, er, ep, ed bs n, u, ek) refl

@@ -1,9 +1,4 @@
 pub mod Asking
-pub mod Sources
-pub mod Examples
-pub mod Planned
-pub mod Items
-pub mod Laws
-pub mod References
-pub mod Shown
-pub mod Fits
+pub mod Operating
+pub mod Finishing
+pub mod Drafting

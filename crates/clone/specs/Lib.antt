@@ -1,2 +1,1 @@
-pub mod Clone
 pub mod Raw

@@ -1,25 +1,51 @@
--- The parts of a source record's refusals, as the code groups them.
-use mathlib.Core.Bool.{Bool, cond, _&&_, _||_, not}
-use mathlib.Core.List.{List, [], _∷_}
-use Prim.Native.Nat.{ℕ}
+-- The stages of a clone as the private functions group them, and what they ask.
+use mathlib.Core.Path.{_≡_}
+use mathlib.Core.Bool.{Bool, true, not}
+use mathlib.Core.List.{List}
+use Prim.Native.Nat.{ℕ, _-_, _^_}
 use lib.Dec.{eqb}
-use Rattle.records.specs.Stages.{unless, first, firstOf}
-use Rattle.item.specs.Items.{Fields, ranged, hole}
+use Rattle.records.specs.Stages.{unless, first, stage}
+use Rattle.item.specs.Items.{Fields}
 use Rattle.table.specs.declared.Row.{Row}
-use Rattle.table.specs.Rows.{find, withRow}
-use Rattle.lists.specs.Lists.{rangeSound}
-use Rattle.refs.specs.Drops.{windowSound}
-use Rattle.clone.specs.Clone.{cloneItem}
+use Rattle.table.specs.Rows.{oneMoreReference}
+use Rattle.request.specs.declared.Volume.{Volume}
+use Rattle.request.specs.declared.File.{File}
+use Rattle.request.specs.Lent.{lent2}
+use Rattle.cut.specs.Refs.{Ref}
+use Rattle.refs.specs.Drops.{dropsRefusal}
+use Rattle.copies.specs.declared.Copying.{Copying}
+use Rattle.copies.specs.Copies.{sourceRecord}
+use Rattle.copies.specs.Replacing.{dropsOf, splitsOf}
+use Rattle.spans.specs.declared.Span.{Span}
+use Rattle.spans.specs.Spans.{resolved, spanOf, sourceRefusal, destinationRefusal, destinationRecord, growthRefusal}
 
--- what a well-kept list has of each item
-abbrev pub rangeKept : Fields → Bool
-rangeKept f = not (ranged f) || rangeSound f
+-- a span with the length that is meant
+abbrev pub meant : ℕ → Span → Span
+meant size s = record { from = s .from; to = s .to; length = resolved size (s .from) (s .length) }
 
--- 14, 17 and 15 of a copy
-abbrev pub copyRefusal : List Row → Fields → ℕ
-copyRefusal rs f = withRow (find (f .extentStart) rs) (λ (row : Row). firstOf (unless (windowSound f row) 17 ∷ unless (eqb (row .keyed) 0) 15 ∷ []))
+-- what is copied, by a span whose length is the one that is meant
+abbrev pub copyingOf : (sector number : ℕ) → Span → Copying
+copyingOf sector number s = record { number = number; from = s .from; to = s .to; span = spanOf sector (s .from) (s .length) }
 
--- 9, and those of its copy, of an item that overlaps
-abbrev pub overlapRefusal : List Row → (number from to span : ℕ) → Fields → ℕ
-overlapRefusal rs number from to span f =
-    first (unless (eqb (f .encryption) 0 && eqb (f .other) 0) 9) (cond (hole f) 0 (copyRefusal rs (cloneItem rs number from to span f)))
+-- 1 to 4, and 19 to 22
+abbrev pub lentAsked : Volume → (dst src : File) → Bool → Span → (list shared source table : List ℕ) → ℕ
+lentAsked v dst src own s list shared source table =
+    first (lent2 v dst src own list shared source table) (sourceRefusal (v .sector) own (src .size) (dst .size) (s .from) (s .to) (s .length))
+
+-- 6, 23, 24, the destination's records, 25
+abbrev pub destinationAsked : (sector : ℕ) → Bool → (size : ℕ) → Span → List Fields → ℕ
+destinationAsked sector own size s fs =
+    first (destinationRefusal sector own 0 size (s .from) (s .to) (s .length))
+    (first (stage destinationRecord fs) (growthRefusal sector size (s .to) (s .length) fs))
+
+-- drops, splits, the source's records, 13
+abbrev pub copiesAsked : (generation : ℕ) → Copying → (before : List Fields) → (shared : List ℕ) → (source : List Fields) → List Row → ℕ
+copiesAsked generation c before shared source rs =
+    first (dropsRefusal rs (dropsOf c before shared))
+    (first (stage (λ (r : Ref). oneMoreReference (r .start) rs) (splitsOf c before))
+    (first (stage (sourceRecord rs c) source) (unless (not (eqb generation (2 ^ 64 - 1))) 13)))
+
+-- the source's file and list are the destination's own for one file
+pub record Chosen (own : Bool) (dst src : File) (list source : List ℕ) : Type 0 where
+  pub file : own ≡ true → src ≡ dst
+  pub bytes : own ≡ true → source ≡ list

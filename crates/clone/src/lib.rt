@@ -1,215 +1,282 @@
-// What a clone is asked, and the parts of it: the list that is read as source (`source_list`), the refusals one by one, and
-// a copy of a source item (`clone_item`). The operation follows; its definition is in specs/.
-use item::Item;
-use records::both;
-use records::either;
+// A clone: the list that is read as source (`source_list`), the refusals in order, and the operation, `clone_range`.
+use copies::Copying;
+use laying::Counts;
 use records::first;
-use records::pick;
-use records::smaller;
-use records::sum_at_most;
-use records::sum_is;
-use records::sum_past;
 use records::unless;
-use table::Found;
+use request::Answer;
+use request::File;
+use request::Numbers;
+use request::Volume;
+use spans::Span;
 ghost use mathlib.Core.Bool.{false, true};
+ghost use mathlib.Core.List.{List, []};
 ghost use mathlib.Core.Path.{_≡_};
-ghost use mathlib.Core.List.{[]};
-ghost use Prim.Native.Nat.{_+_, _-_, _≤_, _<_, _^_};
-ghost use Rattle.records.specs.Stages.{stage, every};
-ghost use Rattle.item.specs.Items.{fields, items};
+ghost use Prim.Native.Nat.{ℕ, _+_, _-_, _<_, _^_};
+ghost use lib.ListN.{length};
+ghost use Rattle.records.specs.Stages.{every};
+ghost use Rattle.item.specs.Items.{items};
 ghost use Rattle.table.specs.Rows.{rows, tableKept};
-ghost use Rattle.lists.specs.Lists.{rangeSound};
 ghost use Rattle.request.specs.Lent.{sectorSound};
-ghost use Rattle.clone.specs.Clone.{chosen, resolved, spanOf, sourceRefusal, destinationRefusal, destinationRecord, growthRefusal, overlaps, cloneItem, sourceRecord};
-ghost use Rattle.clone.specs.Raw.{rangeKept, copyRefusal, overlapRefusal};
-
-// What is cloned: `length` bytes from `from` in the source to `to` in the destination; 0 means to the source's end.
-pub struct Span {
-    pub from: u64,
-    pub to: u64,
-    pub length: u64,
-}
+ghost use Rattle.request.specs.Answers.{plan, said};
+ghost use Rattle.plan.specs.Plans.{numbers, told};
+ghost use Rattle.plan.specs.Outputs.{outs, roomsOf, Met};
+ghost use Rattle.copies.specs.Raw.{InFiles, rangeKept};
+ghost use Rattle.copies.specs.Replacing.{planFor};
+ghost use Rattle.cloning.specs.Raw.{Replacing};
+ghost use Rattle.spans.specs.Spans.{resolved};
+ghost use Rattle.clone_plan.specs.Clone.{chosen, withRoom, draftedLent, cloneLent};
+ghost use Rattle.clone.specs.Raw.{meant, copyingOf, lentAsked, destinationAsked, copiesAsked, Chosen};
 
 // The list that is read as source: for one file cloned into itself the destination's.
-fn source_list<'a>(own: bool, dst: &'a [u8], src: &'a [u8]) -> &'a [u8]
-    ensures { λ r. ⌜ now r ≡ chosen own (now (dst .entry)) (now (src .entry)) ⌝ }
+fn source_list<'a>(own: bool, list: &'a [u8], source: &'a [u8]) -> &'a [u8]
+    ensures { λ r. ⌜ now r ≡ chosen own (now (list .entry)) (now (source .entry)) ⌝ }
+{
+    if own { list } else { source }
+}
+
+// The source's file, for one file the destination.
+fn source_file(own: bool, dst: File, src: File) -> File
+    ensures { λ r. ⌜ r ≡ chosen own dst src ⌝ }
 {
     if own { dst } else { src }
 }
 
-// The bytes of a file from `from` on; none past its end.
-fn bytes_from(size: u64, from: u64) -> u64
-    ensures { λ r. ⌜ r ≡ size - from ⌝ }
+// Refusals 1 to 4 of what a clone is lent, and 19 to 22.
+fn lent_asked(
+    v: Volume,
+    dst: File,
+    src: File,
+    own: bool,
+    s: Span,
+    list: &[u8],
+    shared: &[u8],
+    source: &[u8],
+    table: &[u64],
+) -> u8
+    ensures { λ r. ⌜ r ≡ lentAsked v dst src own s (now (list .entry)) (now (shared .entry)) (now (source .entry)) (now (table .entry)) ⌝ }
 {
-    if size < from { 0 } else { size - from }
+    let lent = request::lent_refusal2(v, dst, src, own, list, shared, source, table);
+    if lent != 0 {
+        return lent;
+    }
+    spans::source_refusal(v.sector, src.size, s)
 }
 
-// The length that is meant: 0 is all up to the source's end.
-fn resolved(size: u64, from: u64, length: u64) -> u64
-    ensures { λ r. ⌜ r ≡ resolved size from length ⌝ }
-{
-    pick(length == 0, bytes_from(size, from), length)
-}
-
-// What is cloned of the extents: up to the end of the sector that the range ends in.
-fn span_of(sector: u64, from: u64, length: u64) -> u64
-    requires { ⌜ (sectorSound sector ≡ true) × (from + length < 2 ^ 63) ⌝ }
-    ensures { λ r. ⌜ r ≡ spanOf sector from length ⌝ }
-{
-    change::round_up(sector, from + length) - from
-}
-
-// ---- refusals, of a span whose length is the one that is meant
-
-// Refusals 19 to 22: the range in a source of this size, and whole sectors.
-fn source_refusal(sector: u64, size: u64, s: Span) -> u8
-    requires { ⌜ 0 < sector ⌝ }
-    ensures { λ r. ⌜ r ≡ sourceRefusal sector false size 0 (s .from) (s .to) (s .length) ⌝ }
-{
-    let start = unless(s.from <= size, 19);
-    let end = unless(sum_at_most(s.from, s.length, size), 20);
-    let offsets = unless(both(s.from % sector == 0, s.to % sector == 0), 21);
-    let whole = either(s.length % sector == 0, sum_is(s.from, s.length, size));
-    first(start, first(end, first(offsets, unless(whole, 22))))
-}
-
-// Refusals 6, 23 and 24: the range in a destination of this size, which may be the source itself.
-fn destination_refusal(sector: u64, own: bool, size: u64, s: Span) -> u8
+// Refusals 6, 23 and 24, those of the destination's records, and 25.
+fn destination_asked(sector: u64, own: bool, size: u64, s: Span, list: &[u8]) -> u8
     requires { ⌜ (sectorSound sector ≡ true) × (s .from + s .length < 2 ^ 63) ⌝ }
-    ensures { λ r. ⌜ r ≡ destinationRefusal sector own 0 size (s .from) (s .to) (s .length) ⌝ }
+    ensures { λ r. ⌜ r ≡ destinationAsked sector own size s (items (now (list .entry))) ⌝ }
 {
-    let span = span_of(sector, s.from, s.length);
-    let far = unless(sum_at_most(s.to, s.length, 9223372036854775807), 6);
-    let partial = either(s.length % sector == 0, bytes_from(size, s.to) <= s.length);
-    let apart = either(
-        sum_at_most(s.to, span, s.from),
-        sum_at_most(s.from, span, s.to),
-    );
-    first(
-        far,
-        first(unless(partial, 23), unless(either(!own, apart), 24)),
-    )
+    let range = spans::destination_refusal(sector, own, size, s);
+    let grows = spans::growth_refusal(sector, size, s.to, s.length, list);
+    first(range, first(spans::destination_records(list), grows))
 }
 
-// Refusals 7 and 8 of a destination record.
-fn destination_record(item: Item) -> u8
-    ensures { λ r. ⌜ r ≡ destinationRecord (fields item) ⌝ }
+// The refusals of drops, of splits and of the source's records, and 13. The shared bytes do not count.
+fn copies_asked(generation: u64, c: Copying, list: &[u8], source: &[u8], table: &[u64]) -> u8
+    requires { ⌜ tableKept (rows (now table)) ≡ true ⌝ }
+    requires { ⌜ InFiles c × (every rangeKept (items (now source)) ≡ true) ⌝ }
+    ensures { λ r. ⌜ ((bs : List ℕ) → length bs ≡ length (items (now (list .entry))) → r ≡ copiesAsked generation c (items (now (list .entry))) bs (items (now (source .entry))) (rows (now (table .entry)))) ⌝ }
 {
-    let kind = item.kind();
-    first(unless(kind != 0, 7), unless(kind <= 2, 8))
+    let k = cloning::cut_for(c);
+    let drop = drops::drops_refusal(k, list, table);
+    let split = splits::splits_refusal(list, table, k.lo, k.hi);
+    let records = copies::source_records(c, table, source);
+    let last = unless(generation != 18446744073709551615, 13);
+    first(drop, first(split, first(records, last)))
 }
 
-// Refusals 7 and 8, record by record.
-fn destination_records(list: &[u8]) -> u8
-    ensures { λ r. ⌜ r ≡ stage destinationRecord (items (now (list .entry))) ⌝ }
+// ---- the two halves
+
+// A plan's numbers from its counts: a clone has no adds and no writes.
+fn numbers_of(n: Counts, size: u64) -> Numbers
+    ensures { λ r. ⌜ r ≡ record { edits = n .edits .edits; shares = n .refs .shares; unrefs = n .refs .unrefs; releases = n .refs .releases; adds = 0; writes = 0; size = size; bytes = n .edits .bytes; prealloc = false } ⌝ }
 {
-    for i in 0..list.len() / 70 {
-        let why = destination_record(item::item_at(list, i));
-        if why != 0 {
-            return why;
-        }
+    let edited = n.edits;
+    let refs = n.refs;
+    Numbers {
+        edits: edited.edits,
+        shares: refs.shares,
+        unrefs: refs.unrefs,
+        releases: refs.releases,
+        adds: 0,
+        writes: 0,
+        size,
+        bytes: edited.bytes,
+        prealloc: false,
     }
-    0
 }
 
-// Refusal 25: a destination that grows, has records and ends inside a sector.
-fn growth_refusal(sector: u64, size: u64, to: u64, length: u64, list: &[u8]) -> u8
-    requires { ⌜ 0 < sector ⌝ }
-    ensures { λ r. ⌜ r ≡ growthRefusal sector size to length (items (now (list .entry))) ⌝ }
+// The span with the length that is meant.
+fn meant(size: u64, s: Span) -> Span
+    ensures { λ r. ⌜ r ≡ meant size s ⌝ }
 {
-    let within = sum_at_most(to, length, size);
-    let ends = either(size % sector == 0, list.len() / 70 == 0);
-    unless(either(within, ends), 25)
+    Span {
+        from: s.from,
+        to: s.to,
+        length: spans::resolved(size, s.from, s.length),
+    }
 }
 
-// ---- source items
-
-// Whether an item overlaps the range that is read.
-fn is_overlapping(from: u64, span: u64, item: Item) -> bool
-    ensures { λ r. ⌜ r ≡ overlaps [] 0 from 0 span (fields item) ⌝ }
+// What is copied, by a span whose length is the one that is meant.
+fn copying_of(sector: u64, number: u64, s: Span) -> Copying
+    requires { ⌜ (sectorSound sector ≡ true) × (s .from + s .length < 2 ^ 63) ⌝ }
+    ensures { λ r. ⌜ r ≡ copyingOf sector number s ⌝ }
 {
-    both(
-        sum_past(item.key, item.length(), from),
-        sum_past(from, span, item.key),
-    )
-}
-
-// The copy of an item that overlaps: trimmed to the range, and moved into the file of this number.
-fn clone_item(number: u64, from: u64, to: u64, span: u64, item: Item) -> Item
-    requires { ⌜ (from + span ≤ 2 ^ 63) × (to + span ≤ 2 ^ 63) × (rangeSound (fields item) ≡ true) × (overlaps [] 0 from 0 span (fields item) ≡ true) ⌝ }
-    ensures { λ r. ⌜ fields r ≡ cloneItem [] number from to span (fields item) ⌝ }
-{
-    let length = item.length();
-    let position = item.position();
-    let start = records::larger(item.key, from);
-    let stop = smaller(item.key + length, from + span);
-    item.windowed(
+    Copying {
         number,
-        to + (start - from),
-        position + (start - item.key),
-        stop - start,
-    )
+        from: s.from,
+        to: s.to,
+        span: spans::span_of(sector, s.from, s.length),
+    }
 }
 
-// Refusals 14, 17 and 15 of a copy: no row, a window outside its extent, keyed references.
-fn copy_refusal(table: &[u64], item: Item) -> u8
-    requires { ⌜ tableKept (rows (now table)) ≡ true ⌝ }
-    ensures { λ r. ⌜ r ≡ copyRefusal (rows (now (table .entry))) (fields item) ⌝ }
+// The numbers of a plan that gives the file this size.
+fn count_clone(
+    c: Copying,
+    size: u64,
+    list: &[u8],
+    shared: &[u8],
+    source: &[u8],
+    table: &[u64],
+) -> Numbers
+    requires { ⌜ Replacing c (now list) (now shared) (now source) (now table) ⌝ }
+    ensures { λ r. ⌜ r ≡ numbers (planFor c (items (now (list .entry))) (now (shared .entry)) (items (now (source .entry))) (rows (now (table .entry))) size) ⌝ }
 {
-    let Found::At(_, row) = table::find_row(table, item.extent_start()) else {
-        return 14;
-    };
-    first(
-        unless(drops::window_sound(item, row), 17),
-        unless(row.keyed == 0, 15),
-    )
+    let mut e = [0u8; 1];
+    let mut s = [0u64; 1];
+    let mut u = [0u64; 1];
+    let mut r = [0u64; 1];
+    let n = cloning::lay_clone(
+        c,
+        list,
+        shared,
+        source,
+        table,
+        &mut e,
+        &mut s,
+        &mut u,
+        &mut r,
+    );
+    numbers_of(n, size)
 }
 
-// Refusals 9, 14, 17 and 15 of a source item that overlaps; only 9 of a hole.
-fn overlap_refusal(number: u64, from: u64, to: u64, span: u64, table: &[u64], item: Item) -> u8
-    requires { ⌜ tableKept (rows (now table)) ≡ true ⌝ }
-    requires { ⌜ (from + span ≤ 2 ^ 63) × (to + span ≤ 2 ^ 63) × (rangeSound (fields item) ≡ true) × (overlaps [] 0 from 0 span (fields item) ≡ true) ⌝ }
-    ensures { λ r. ⌜ r ≡ overlapRefusal (rows (now (table .entry))) number from to span (fields item) ⌝ }
+// The first half of a clone of a source that was chosen: the plan's numbers, nothing to do, or what refuses it but for 27.
+fn draft_clone(
+    v: Volume,
+    dst: File,
+    src: File,
+    own: bool,
+    s: Span,
+    list: &[u8],
+    shared: &[u8],
+    source: &[u8],
+    table: &[u64],
+) -> Answer
+    requires { ⌜ Chosen own dst src (now list) (now source) ⌝ }
+    ensures { λ r. ⌜ said r ≡ told (draftedLent v dst src own s (now (list .entry)) (now (shared .entry)) (now (source .entry)) (now (table .entry))) ⌝ }
 {
-    let encoded = unless(both(item.encryption() == 0, item.other() == 0), 9);
-    if cut::is_hole(item) {
-        return encoded;
+    let m = meant(src.size, s);
+    let lent = lent_asked(v, dst, src, own, m, list, shared, source, table);
+    if lent != 0 {
+        return Answer::Refused(lent);
     }
-    let copy = clone_item(number, from, to, span, item);
-    first(encoded, copy_refusal(table, copy))
+    if m.length == 0 {
+        return Answer::Nothing;
+    }
+    let asked = destination_asked(v.sector, own, dst.size, m, list);
+    if asked != 0 {
+        return Answer::Refused(asked);
+    }
+    let c = copying_of(v.sector, dst.number, m);
+    let why = copies_asked(v.generation, c, list, source, table);
+    if why != 0 {
+        return Answer::Refused(why);
+    }
+    let size = records::larger(dst.size, m.to + m.length);
+    Answer::Planned(count_clone(c, size, list, shared, source, table))
 }
 
-// The refusal of a source record: 7 of an inline one read from offset 0, 8, and what is refused of one that overlaps.
-fn source_record(number: u64, from: u64, to: u64, span: u64, table: &[u64], item: Item) -> u8
-    requires { ⌜ tableKept (rows (now table)) ≡ true ⌝ }
-    requires { ⌜ (from + span ≤ 2 ^ 63) × (to + span ≤ 2 ^ 63) × (rangeKept (fields item) ≡ true) ⌝ }
-    ensures { λ r. ⌜ r ≡ sourceRecord (rows (now (table .entry))) number from to span (fields item) ⌝ }
+// The second half of a clone whose plan has these numbers: 27, and the writing, which cannot fail.
+fn finish_clone(
+    c: Copying,
+    n: Numbers,
+    list: &[u8],
+    shared: &[u8],
+    source: &[u8],
+    table: &[u64],
+    edits: &mut [u8],
+    shares: &mut [u64],
+    unrefs: &mut [u64],
+    releases: &mut [u64],
+) -> Answer
+    requires { ⌜ Replacing c (now list) (now shared) (now source) (now table) × (n ≡ numbers (planFor c (items (now list)) (now shared) (items (now source)) (rows (now table)) (n .size))) ⌝ }
+    ensures { λ r. ⌜ Met (c .number) (withRoom (roomsOf (outs (now (edits .entry)) (now (shares .entry)) (now (unrefs .entry)) (now (releases .entry)) [] [])) (plan (planFor c (items (now (list .entry))) (now (shared .entry)) (items (now (source .entry))) (rows (now (table .entry))) (n .size)))) r (outs (now (edits .entry)) (now (shares .entry)) (now (unrefs .entry)) (now (releases .entry)) [] []) (outs (now (edits .exit)) (now (shares .exit)) (now (unrefs .exit)) (now (releases .exit)) [] []) ⌝ }
 {
-    let kind = item.kind();
-    if kind == 0 {
-        return unless(from != 0, 7);
+    let short = places::room_refusal(
+        n,
+        edits.len(),
+        shares.len(),
+        unrefs.len(),
+        releases.len(),
+        0,
+        0,
+    );
+    if short != 0 {
+        return Answer::Refused(short);
     }
-    if 2 < kind {
-        return 8;
-    }
-    if is_overlapping(from, span, item) {
-        return overlap_refusal(number, from, to, span, table, item);
-    }
-    0
+    cloning::lay_clone(
+        c,
+        list,
+        shared,
+        source,
+        table,
+        edits,
+        shares,
+        unrefs,
+        releases,
+    );
+    Answer::Planned(n)
 }
 
-// The refusals of the source records, record by record.
-fn source_records(number: u64, from: u64, to: u64, span: u64, table: &[u64], list: &[u8]) -> u8
-    requires { ⌜ tableKept (rows (now table)) ≡ true ⌝ }
-    requires { ⌜ (from + span ≤ 2 ^ 63) × (to + span ≤ 2 ^ 63) × (every rangeKept (items (now list)) ≡ true) ⌝ }
-    ensures { λ r. ⌜ r ≡ stage (sourceRecord (rows (now (table .entry))) number from to span) (items (now (list .entry))) ⌝ }
+// ---- the operation
+
+// A clone of a range of one file into another, or into itself (`own`; the second file and list are then not looked at): the
+// answer, and the plan in the four outputs that it has lines for. Any bytes may be lent.
+pub fn clone_range<'a>(
+    v: Volume,
+    dst: File,
+    src: File,
+    own: bool,
+    s: Span,
+    list: &'a [u8],
+    shared: &[u8],
+    source: &'a [u8],
+    table: &[u64],
+    edits: &mut [u8],
+    shares: &mut [u64],
+    unrefs: &mut [u64],
+    releases: &mut [u64],
+) -> Answer
+    ensures { λ r. ⌜ Met (dst .number) (cloneLent v dst src own s (now (list .entry)) (now (shared .entry)) (now (source .entry)) (now (table .entry)) (roomsOf (outs (now (edits .entry)) (now (shares .entry)) (now (unrefs .entry)) (now (releases .entry)) [] []))) r (outs (now (edits .entry)) (now (shares .entry)) (now (unrefs .entry)) (now (releases .entry)) [] []) (outs (now (edits .exit)) (now (shares .exit)) (now (unrefs .exit)) (now (releases .exit)) [] []) ⌝ }
 {
-    for i in 0..list.len() / 70 {
-        let item = item::item_at(list, i);
-        let why = source_record(number, from, to, span, table, item);
-        if why != 0 {
-            return why;
-        }
+    let from = source_list(own, list, source);
+    let file = source_file(own, dst, src);
+    let draft = draft_clone(v, dst, file, own, s, list, shared, from, table);
+    match draft {
+        Answer::Refused(why) => Answer::Refused(why),
+        Answer::Nothing => Answer::Nothing,
+        Answer::Planned(n) => finish_clone(
+            copying_of(v.sector, dst.number, meant(file.size, s)),
+            n,
+            list,
+            shared,
+            from,
+            table,
+            edits,
+            shares,
+            unrefs,
+            releases,
+        ),
     }
-    0
 }

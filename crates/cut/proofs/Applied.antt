@@ -287,16 +287,16 @@ module _ (t : Edit → Bool) where
 -- ---- applying, edit by edit
 
 -- edits behind k do not name it
-unedited : (k b : ℕ) (es : List Edit) → k < b → EditsUp b es → edited es k ≡ false
+pub unedited : (k b : ℕ) (es : List Edit) → k < b → EditsUp b es → edited es k ≡ false
 unfolding any
 unedited k b [] h u = refl
 unedited k b (e ∷ es) h u = rw (ne-eqb (keyOf e) k (λ q. omega arith)) (unedited k (suc (keyOf e)) es (omega arith) (u .1))
 
 -- the old items that no edit names
-abbrev left : List Edit → List Fields → List Fields
+abbrev pub left : List Edit → List Fields → List Fields
 left es fs = keep (λ (f : Fields). not (edited es (f .key))) fs
 
-left-past : (e : Edit) (es : List Edit) (b : ℕ) (fs : List Fields) → keyOf e < b → ItemsUp b fs → left (e ∷ es) fs ≡ left es fs
+pub left-past : (e : Edit) (es : List Edit) (b : ℕ) (fs : List Fields) → keyOf e < b → ItemsUp b fs → left (e ∷ es) fs ≡ left es fs
 unfolding keep any
 left-past e es b [] h u = refl
 left-past e es b (f ∷ fs) h u = rw (ne-eqb (keyOf e) (f .key) (λ q. omega arith), left-past e es (suc (f .key)) fs (omega arith) (u .1)) refl
@@ -318,21 +318,21 @@ insertAll-past p b (put x ∷ es) ps h u = rw (le-ltb (x .key) (p .item .key) (o
 insertAll-past p b (delete k ∷ es) ps h u = insertAll-past p (suc k) es ps (omega arith) (u .1)
 
 -- an old item that no edit names stays; one that the first edit names goes; a put comes first; a delete is done
-after-kept : (f : Fields) (fs : List Fields) (es : List Edit) → EditsUp (suc (f .key)) es → itemsAfter (f ∷ fs) es ≡ kept f ∷ itemsAfter fs es
+pub after-kept : (f : Fields) (fs : List Fields) (es : List Edit) → EditsUp (suc (f .key)) es → itemsAfter (f ∷ fs) es ≡ kept f ∷ itemsAfter fs es
 unfolding itemsAfter keep
 after-kept f fs es u = rw (unedited (f .key) (suc (f .key)) es (omega arith) u) (insertAll-past (kept f) (suc (f .key)) es (map kept (left es fs)) (omega arith) u)
 
-after-named : (f : Fields) (fs : List Fields) (e : Edit) (es : List Edit) → keyOf e ≡ f .key → itemsAfter (f ∷ fs) (e ∷ es) ≡ itemsAfter fs (e ∷ es)
+pub after-named : (f : Fields) (fs : List Fields) (e : Edit) (es : List Edit) → keyOf e ≡ f .key → itemsAfter (f ∷ fs) (e ∷ es) ≡ itemsAfter fs (e ∷ es)
 unfolding itemsAfter keep any
 after-named f fs e es q = rw (eq-eqb (keyOf e) (f .key) q) refl
 
-after-put : (x : Fields) (fs : List Fields) (es : List Edit) → ItemsUp (suc (x .key)) fs → EditsUp (suc (x .key)) es → itemsAfter fs (put x ∷ es) ≡ made x ∷ itemsAfter fs es
+pub after-put : (x : Fields) (fs : List Fields) (es : List Edit) → ItemsUp (suc (x .key)) fs → EditsUp (suc (x .key)) es → itemsAfter fs (put x ∷ es) ≡ made x ∷ itemsAfter fs es
 unfolding itemsAfter flatMap insertAll
 after-put x fs es u v =
     rw (left-past (put x) es (suc (x .key)) fs (omega arith) u, insert-first x (λ (f : Fields). not (edited es (f .key))) (suc (x .key)) fs (omega arith) u)
     (insertAll-past (made x) (suc (x .key)) es (map kept (left es fs)) (omega arith) v)
 
-after-delete : (k : ℕ) (fs : List Fields) (es : List Edit) → ItemsUp (suc k) fs → itemsAfter fs (delete k ∷ es) ≡ itemsAfter fs es
+pub after-delete : (k : ℕ) (fs : List Fields) (es : List Edit) → ItemsUp (suc k) fs → itemsAfter fs (delete k ∷ es) ≡ itemsAfter fs es
 unfolding itemsAfter flatMap
 after-delete k fs es u = rw (left-past (delete k) es (suc k) fs (omega arith) u) refl
 

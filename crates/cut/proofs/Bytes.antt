@@ -10,7 +10,7 @@ use Rattle.records.proofs.Tests.{both-left, both-right}
 use Rattle.item.specs.Items.{Fields, ranged, hole, end}
 use Rattle.lists.proofs.Order.{item-ranged}
 use Rattle.lists.proofs.Laws.{Kept, kept-tail, kept-head, ranges-apart}
-use Rattle.cut.specs.Pieces.{Piece, made, itemsOf, insert, countedBytes}
+use Rattle.cut.specs.Pieces.{Piece, made, itemsOf, insert, insertAll, countedBytes}
 
 -- of two lists
 pub bytes-append : (fs gs : List Fields) → countedBytes (fs ++ gs) ≡ countedBytes fs + countedBytes gs
@@ -19,7 +19,7 @@ bytes-append [] gs = omega arith
 bytes-append (f ∷ fs) gs = omega (arith, bytes-append fs gs)
 
 -- with a new item
-pub insert-bytes : (x : Fields) (ps : List Piece) → countedBytes (itemsOf (insert x ps)) ≡ cond (hole x) 0 (x .length) + countedBytes (itemsOf ps)
+insert-bytes : (x : Fields) (ps : List Piece) → countedBytes (itemsOf (insert x ps)) ≡ cond (hole x) 0 (x .length) + countedBytes (itemsOf ps)
 unfolding countedBytes insert
 insert-bytes x [] = refl
 insert-bytes x (q ∷ qs) = go (ltb (x .key) (q .item .key)) (insert-bytes x qs)
@@ -28,6 +28,11 @@ insert-bytes x (q ∷ qs) = go (ltb (x .key) (q .item .key)) (insert-bytes x qs)
         → countedBytes (itemsOf (cond b (made x ∷ q ∷ qs) (q ∷ insert x qs))) ≡ cond (hole x) 0 (x .length) + countedBytes (itemsOf (q ∷ qs))
     go true h = refl
     go false h = omega arith
+
+pub insertAll-bytes : (xs : List Fields) (ps : List Piece) → countedBytes (itemsOf (insertAll xs ps)) ≡ countedBytes xs + countedBytes (itemsOf ps)
+unfolding insertAll countedBytes
+insertAll-bytes [] ps = omega arith
+insertAll-bytes (x ∷ xs) ps = omega (arith, insertAll-bytes xs (insert x ps), insert-bytes x ps)
 
 -- ---- they fit: ranges do not overlap and end at 2^63 at most
 

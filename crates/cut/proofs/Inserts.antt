@@ -51,6 +51,21 @@ insert-behind : (x : Fields) (p : Piece) (ps : List Piece) → p .item .key ≤ 
 unfolding insert
 insert-behind x p ps l = rw (le-ltb (x .key) (p .item .key) l) refl
 
+-- one more, and several more
+insert-length : (x : Fields) (ps : List Piece) → length (insert x ps) ≡ suc (length ps)
+unfolding insert
+insert-length x [] = refl
+insert-length x (p ∷ ps) = go (ltb (x .key) (p .item .key)) (insert-length x ps)
+  where
+    go : (b : Bool) → length (insert x ps) ≡ suc (length ps) → length (cond b (made x ∷ p ∷ ps) (p ∷ insert x ps)) ≡ suc (suc (length ps))
+    go true h = refl
+    go false h = ap suc h
+
+pub insertAll-length : (xs : List Fields) (ps : List Piece) → length (insertAll xs ps) ≡ length xs + length ps
+unfolding insertAll
+insertAll-length [] ps = omega arith
+insertAll-length (x ∷ xs) ps = omega (arith, insertAll-length xs (insert x ps), insert-length x ps)
+
 -- several behind one
 pub insertAll-behind : (p : Piece) (ys : List Fields) (ps : List Piece) → every (λ (y : Fields). leb (p .item .key) (y .key)) ys ≡ true → insertAll ys (p ∷ ps) ≡ p ∷ insertAll ys ps
 unfolding insertAll every

@@ -25,7 +25,7 @@ use Rattle.refs.specs.Drops.{held}
 use Rattle.refs.proofs.Drops.{held-items}
 use Rattle.plan.specs.Plans.{Plan, numbers, refusedOr}
 use Rattle.plan.specs.Outputs.{Rooms, Outs}
-use Rattle.edits.specs.Pieced.{addsIn, pieceItems}
+use Rattle.edits.specs.Pieced.{pieceItems}
 use Rattle.change.specs.declared.RangeChange.{RangeChange}
 use Rattle.change.specs.declared.Fill.{Fill}
 use Rattle.change.specs.Rewrites.{Ground, rewriteRefusal}
@@ -224,13 +224,13 @@ module _ (v : Volume) (f : File) (c : RangeChange) (w : Fill) (p : Parts) (list 
 module _ (v : Volume) (f : File) (c : RangeChange) (p : Parts) (list shared table : List ℕ) where
   -- a plan without pieces
   pub none-pieced : (after : List Fields) (file generation : ℕ) → Pieced (items list) after (pieceItems file generation [])
-  unfolding addsIn records chunks every pairs
+  unfolding records chunks every pairs
   none-pieced after file generation = record { rise = refl; olds = refl; news = refl }
 
   pub none-counted :
       (n : Counts) (x y : ℕ) (before after : Outs) → PlanLaid (f .number) (planAt v f c p list shared table x y) (editsAt v f c p list shared table x y []) n before after
       → n ≡ countsOf (planAt v f c p list shared table x y)
-  unfolding addsIn records chunks insertAll
+  unfolding records chunks insertAll
   none-counted n x y before after l =
       let e1 = l .edits .edits .lines ∙ zero-add _ in
       let e2 = l .refs .shares .lines ∙ zero-add _ in

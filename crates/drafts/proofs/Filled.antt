@@ -3,24 +3,23 @@
 use mathlib.Core.Path.{_≡_, refl, ap, ap₂, _∙_, sym}
 use mathlib.Core.Bool.{Bool, true, false, cond, not}
 use mathlib.Core.List.{List, [], _∷_, _++_, map, flatMap, map-append, map-map, map-id, append-assoc}
-use Prim.Native.Nat.{ℕ, zero, suc, _+_, _-_, _%_, _≤_, _<_, _^_}
+use Prim.Native.Nat.{ℕ, suc, _+_, _-_, _≤_, _<_, _^_}
 use native.Mathlib.Omega.{arith}
 use lib.Dec.{eqb, ltb}
-use lib.ListN.{length, length-append, length-map, replicate, length-replicate, replicate-append-replicate}
-use borrow.Author.Tests.{lt-ltb, ltb-false}
-use Rattle.records.specs.Select.{any, only, keep}
+use lib.ListN.{length, length-append, length-map}
+use borrow.Author.Tests.{ltb-false}
+use Rattle.records.specs.Select.{only, keep}
 use Rattle.records.specs.Stages.{every, pairs}
 use Rattle.item.specs.Items.{Fields, items, ranged}
 use Rattle.lists.specs.Lists.{rises}
 use Rattle.lists.proofs.Laws.{Kept}
 use Rattle.request.specs.declared.Volume.{Volume}
-use Rattle.request.specs.declared.Numbers.{Numbers}
 use Rattle.request.specs.Lent.{sectorSound}
 use Rattle.cut.specs.Pieces.{Piece, itemsOf, insertAll, countedBytes}
-use Rattle.cut.specs.Edits.{Edit, edits}
+use Rattle.cut.specs.Edits.{edits}
 use Rattle.cut.proofs.Inserts.{edits-count, inserted-fresh}
 use Rattle.cut.proofs.Bytes.{bytes-fit}
-use Rattle.plan.specs.Plans.{Plan, Write, numbers}
+use Rattle.plan.specs.Plans.{Write, numbers}
 use Rattle.plan.specs.Places.{Wanted}
 use Rattle.plan.proofs.Places.{placed-length}
 use Rattle.change.specs.declared.RangeChange.{RangeChange}
@@ -28,22 +27,20 @@ use Rattle.change.specs.declared.Fill.{Fill}
 use Rattle.change.specs.declared.Rewrite.{Rewrite}
 use Rattle.change.specs.Rewrites.{Ground, rewrittenAnew, writeInPlace, eachInPlace}
 use Rattle.change.specs.Preallocs.{Span, pieceLimit, preallocPieces, sumOf}
-use Rattle.change.specs.Changes.{Change, changeOf, before, newItems, writesAnew, piecesJoined, piecesWritten, drops, sectorsWanted, piecesWanted, wanted, piecesAfter, planOf, spanFor}
-use Rattle.change.specs.Sweep.{upTo, sweep, filledOf}
+use Rattle.change.specs.Changes.{Change, before, newItems, piecesJoined, piecesWritten, drops, sectorsWanted, piecesWanted, wanted, piecesAfter, planOf, spanFor}
+use Rattle.change.specs.Sweep.{sweep, filledOf}
 use Rattle.change.proofs.Fair.{Fair}
 use Rattle.change.proofs.Sweep.{sum-some}
 use Rattle.change.proofs.Preallocs.{limit-whole}
 use Rattle.change.proofs.Rounding.{sector-range}
 use Rattle.change.proofs.News.{sectorWanted, pieceWanted}
-use Rattle.change.proofs.Filled.{bare, bare-fair, bare-wanted, bare-joined, after-parts, writes-part, bytes-filled, mark-filled, pieces-rise, pieces-fresh, holes-below}
-use Rattle.holes.specs.declared.NewExtents.{NewExtents}
-use Rattle.holes.specs.declared.Sums.{Sums}
+use Rattle.change.proofs.Filled.{bare, bare-wanted, after-parts, writes-part, bytes-filled, mark-filled, pieces-rise, pieces-fresh}
 use Rattle.holes.specs.Walk.{spanOf, wishes}
 use Rattle.holes.proofs.Pieces.{pieces-none, pieces-cons}
 use Rattle.changing.specs.declared.Parts.{Parts}
 use Rattle.changing.specs.Raw.{Parting}
 use Rattle.changing.specs.Sides.{frontNew, backNew, sides, wantedAt}
-use Rattle.changing.proofs.Sides.{wanted-sides, anew-sides}
+use Rattle.changing.proofs.Sides.{wanted-sides}
 use Rattle.changing.proofs.Edited.{after-kept}
 use Rattle.laying.specs.Laid.{Pieced}
 use Rattle.drafts.specs.Raw.{sideOf, extentsOf, countsOf, numbersOf}

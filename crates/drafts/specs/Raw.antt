@@ -25,7 +25,6 @@ use Rattle.rewrites.specs.Raw.{lentGround}
 use Rattle.changing.specs.declared.Parts.{Parts}
 use Rattle.changing.specs.Sides.{frontNew, backNew}
 use Rattle.laying.specs.declared.Counts.{Counts}
-use Rattle.drafts.specs.declared.Needs.{Needs}
 use Rattle.drafts.specs.declared.Draft.{Draft}
 use Rattle.drafts.specs.declared.Draft.the-variants as draft
 

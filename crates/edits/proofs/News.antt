@@ -1,5 +1,5 @@
 -- The new items, the lowest key first. Assumes nothing.
-use mathlib.Core.Path.{_≡_, refl, ap, _∙_, sym}
+use mathlib.Core.Path.{_≡_, refl, _∙_, sym}
 use mathlib.Core.Bool.{Bool, true, false, false≢true}
 use mathlib.Core.List.{List, [], _∷_, map}
 use Prim.Native.Nat.{ℕ, _+_, _*_, _/_, _<_, _≤_}
@@ -7,43 +7,34 @@ use native.Mathlib.Omega.{arith}
 use native.Mathlib.Decide.{decLt}
 use native.Mathlib.Nat.{add-zero}
 use native.Mathlib.Numerals.{add-one}
-use lib.Dec.{leb, ltb}
+use lib.Dec.{ltb}
 use lib.ListN.{length, getD, drop, drop-of-length-le}
 use lib.Seq.{drop-cons, getD-drop}
-use borrow.Author.Tests.{ltb-true, ltb-false, le-leb}
-use Rattle.records.specs.Stages.{every, pairs}
-use Rattle.records.proofs.Tests.{both, both-left, both-right, every-map}
+use Rattle.records.specs.Stages.{pairs}
 use Rattle.records.proofs.Lists.{pairs-mapped, pairs-drop}
 use Rattle.records.proofs.Loops.{chunks-length, chunks-at}
 use Rattle.records.specs.Records.{records}
 use Rattle.item.specs.declared.Item.{Item}
 use Rattle.item.specs.Items.{Fields, decode, items, fields, regularItem, ofKind}
-use Rattle.item.proofs.Laws.{items-length, items-at}
 use Rattle.lists.specs.Lists.{rises}
-use Rattle.cut.specs.Pieces.{made, insert, insertAll}
-use Rattle.cut.proofs.Inserts.{insertAll-behind}
+use Rattle.cut.specs.Pieces.{made, insertAll}
 use Rattle.plan.specs.Plans.{Add}
-use Rattle.edits.specs.Pieced.{addOf, addsIn, pieceItem, pieceItems}
-use Rattle.edits.specs.Merge.{from, pieceFirst, together, news, IsNext}
+use Rattle.merge.specs.declared.Next.{Next}
+use Rattle.merge.specs.Merge.{from, together, comesFirst, FromSegment}
+use Rattle.merge.proofs.News.{from-cons, from-nil, first-new, first-other}
+use Rattle.plan.specs.Reading.{addOf, addsIn}
+use Rattle.edits.specs.Pieced.{pieceItem, pieceItems}
+use Rattle.edits.specs.Merge.{pieceFirst, news, IsNext}
 
 -- ---- what a loop reads next, and the end
 
--- the items of a list from one on
-pub from-cons : (s : List ℕ) (i : ℕ) → i < length s / 70 → from s i ≡ decode (drop (i * 70) s) ∷ from s (i + 1)
-from-cons s i h =
-    let l : i < length (items s) = omega (arith, items-length s) in
-    rw (add-one, drop-cons (items s) i (decode s) l, items-at s i (decode s) h) refl
-
-pub from-nil : (s : List ℕ) (i : ℕ) → length s / 70 ≤ i → from s i ≡ []
-from-nil s i h = drop-of-length-le (items s) {i = i} (omega (arith, items-length s))
-
--- and the pieces
+-- the pieces
 adds-length : (s : List ℕ) → length (addsIn s) ≡ length s / 3
-unfolding addsIn records
+unfolding records
 adds-length s = chunks-length addOf 3 (length s / 3) s
 
 adds-at : (s : List ℕ) (k : ℕ) (e : Add) → k < length s / 3 → getD (addsIn s) k e ≡ addOf (drop (k * 3) s)
-unfolding addsIn records
+unfolding records
 adds-at s k e h = chunks-at addOf 3 (length s / 3) s k e h
 
 adds-cons : (s : List ℕ) (k : ℕ) → k < length s / 3 → drop k (addsIn s) ≡ addOf (drop (k * 3) s) ∷ drop (k + 1) (addsIn s)
@@ -95,28 +86,16 @@ module _ (t p : List ℕ) (j k : ℕ) where
 
 -- ---- the first of the new items
 
--- pieces at a key or past it
-at-least : (n : ℕ) (ys : List Fields) (y : Fields) → n ≤ y .key → pairs rises (y ∷ ys) ≡ true → every (λ (z : Fields). leb n (z .key)) (y ∷ ys) ≡ true
-unfolding pairs every
-at-least n ys y h r =
-    both (leb n (y .key)) (every (λ (z : Fields). leb n (z .key)) ys) (le-leb n (y .key) h)
-    (every-map (rises y) (λ (z : Fields). leb n (z .key)) (λ z e. let l = ltb-true (y .key) (z .key) e in le-leb n (z .key) (omega arith)) ys (both-left (every (rises y) ys) (pairs rises ys) r))
-
 module _ (file generation : ℕ) where
   abbrev piece : Add → Fields
   piece = pieceItem file generation
 
-  first-piece : (a : Add) (adds : List Add) (gs : List Fields) → pieceFirst gs (a ∷ adds) ≡ true → pairs rises (map piece (a ∷ adds)) ≡ true → together file generation (a ∷ adds) gs ≡ made (piece a) ∷ together file generation adds gs
-  unfolding insertAll pairs every
-  first-piece a adds gs h r = ap (insertAll (map piece adds)) (insert-here gs h) ∙ insertAll-behind (made (piece a)) (map piece adds) (map made gs) (both-right (leb (a .key) (a .key)) (every (λ (z : Fields). leb (a .key) (z .key)) (map piece adds)) (at-least (a .key) (map piece adds) (piece a) (omega arith) r))
-    where
-      insert-here : (gs : List Fields) → pieceFirst gs (a ∷ adds) ≡ true → insert (piece a) (map made gs) ≡ made (piece a) ∷ map made gs
-      insert-here [] h = unfold insert in refl
-      insert-here (g ∷ gs) h = unfold insert in rw h refl
-
-  first-item : (adds : List Add) (g : Fields) (gs : List Fields) → pieceFirst (g ∷ gs) adds ≡ false → pairs rises (map piece adds) ≡ true → together file generation adds (g ∷ gs) ≡ made g ∷ together file generation adds gs
-  first-item [] g gs h r = unfold insertAll in refl
-  first-item (a ∷ adds) g gs h r = insertAll-behind (made g) (map piece (a ∷ adds)) (map made gs) (at-least (g .key) (map piece adds) (piece a) (ltb-false (a .key) (g .key) h) r)
+  -- by a piece's key, or by its item's
+  first-same : (adds : List Add) (gs : List Fields) → comesFirst (map piece adds) gs ≡ pieceFirst gs adds
+  first-same [] [] = refl
+  first-same [] (g ∷ gs) = refl
+  first-same (a ∷ adds) [] = refl
+  first-same (a ∷ adds) (g ∷ gs) = refl
 
   -- the pieces from one on rise
   rise-from : (p : List ℕ) (k : ℕ) → pairs rises (pieceItems file generation p) ≡ true → pairs rises (map piece (drop k (addsIn p))) ≡ true
@@ -136,35 +115,33 @@ module _ (file generation : ℕ) where
     next-piece item h f =
         let l = piece-some t p j k b e h in
         record {
-          some = λ s. go (drop k (addsIn p)) (adds-cons p k l) (sym e ∙ h) (rise-from p k r);
+          head = record { there = λ s. go (drop k (addsIn p)) (adds-cons p k l) (sym e ∙ h) (rise-from p k r); none = λ s. absurd (false≢true (sym s)) };
           none = λ s. absurd (false≢true (sym s));
           on = λ s. omega arith;
           j = hj;
           k = omega arith;
         }
       where
-        go : (adds : List Add) → adds ≡ addOf (drop (k * 3) p) ∷ drop (k + 1) (addsIn p) → pieceFirst (from t j) adds ≡ true → pairs rises (map piece adds) ≡ true → together file generation adds (from t j) ≡ made (fields item) ∷ news file generation t p j (k + 1)
-        go adds q h r = rw (q, f) (first-piece (addOf (drop (k * 3) p)) (drop (k + 1) (addsIn p)) (from t j) (rw q at h) (rw q at r))
+        go : (adds : List Add) → adds ≡ addOf (drop (k * 3) p) ∷ drop (k + 1) (addsIn p) → pieceFirst (from t j) adds ≡ true → pairs rises (map piece adds) ≡ true → together (map piece adds) (from t j) ≡ made (fields item) ∷ news file generation t p j (k + 1)
+        go adds q h r = rw (q, f) (first-new (piece (addOf (drop (k * 3) p))) (map piece (drop (k + 1) (addsIn p))) (from t j) (first-same (addOf (drop (k * 3) p) ∷ drop (k + 1) (addsIn p)) (from t j) ∙ rw q at h) (rw q at r))
 
-    pub next-none : (item : Item) → b ≡ false → length t / 70 ≤ j → IsNext file generation t p j k (record { some = false; item = item; j = j; k = k })
-    next-none item h l =
+    -- none is left, or the segment's next one
+    pub next-rest : (next : Next) → b ≡ false → FromSegment t j k next → IsNext file generation t p j k next
+    next-rest next h s =
         record {
-          some = λ s. absurd (false≢true s);
-          none = λ s. (l, piece-gone t p j k b e h l);
-          on = λ s. absurd (false≢true s);
-          j = hj;
-          k = hk;
-        }
-
-    pub next-item : (item : Item) → b ≡ false → j < length t / 70 → fields item ≡ decode (drop (j * 70) t) → IsNext file generation t p j k (record { some = true; item = item; j = j + 1; k = k })
-    next-item item h l f =
-        record {
-          some = λ s. go (from t j) (from-cons t j l) (sym e ∙ h);
-          none = λ s. absurd (false≢true (sym s));
-          on = λ s. omega arith;
-          j = omega arith;
-          k = hk;
+          head = record { there = λ z. there z; none = λ z. news-none t p j k (s .none z .0) (piece-gone t p j k b e h (s .none z .0)) };
+          none = λ z. (s .none z .0, piece-gone t p j k b e h (s .none z .0));
+          on = λ z. let x = s .there z in let y = s .k in omega (arith, x .2);
+          j = go (next .some) refl;
+          k = let y = s .k in omega arith;
         }
       where
-        go : (gs : List Fields) → gs ≡ decode (drop (j * 70) t) ∷ from t (j + 1) → pieceFirst gs (drop k (addsIn p)) ≡ false → together file generation (drop k (addsIn p)) gs ≡ made (fields item) ∷ news file generation t p (j + 1) k
-        go gs q h = rw (q, f) (first-item (drop k (addsIn p)) (decode (drop (j * 70) t)) (from t (j + 1)) (rw q at h) (rise-from p k r))
+        behind : (gs : List Fields) → gs ≡ decode (drop (j * 70) t) ∷ from t (j + 1) → pieceFirst gs (drop k (addsIn p)) ≡ false → together (map piece (drop k (addsIn p))) gs ≡ made (decode (drop (j * 70) t)) ∷ news file generation t p (j + 1) k
+        behind gs q h = rw q (first-other (map piece (drop k (addsIn p))) (decode (drop (j * 70) t)) (from t (j + 1)) (first-same (drop k (addsIn p)) (decode (drop (j * 70) t) ∷ from t (j + 1)) ∙ rw q at h) (rise-from p k r))
+
+        there : next .some ≡ true → news file generation t p j k ≡ made (fields (next .item)) ∷ news file generation t p (next .j) (next .k)
+        there z = let x = s .there z in rw (x .1, x .2, s .k) (behind (from t j) (from-cons t j (x .0)) (sym e ∙ h))
+
+        go : (d : Bool) → next .some ≡ d → next .j ≤ length t / 70
+        go true z = let x = s .there z in omega (arith, x .0, x .2)
+        go false z = let x = s .none z in omega (arith, x .1)

@@ -1,26 +1,24 @@
--- The edits between an old list and the new items, one a step: which new item is the next, whether an old one goes before
--- it, and what a step does.
+-- The edits between an old list and the new items, a segment with pieces among it: which new item is the next, and what a
+-- step does.
 use mathlib.Core.Path.{_≡_}
-use mathlib.Core.Bool.{Bool, true, false, cond, _||_, not}
+use mathlib.Core.Bool.{Bool, true, false}
 use mathlib.Core.List.{List, [], _∷_, map}
 use Prim.Native.Nat.{ℕ, _+_, _/_, _≤_, _<_, _^_}
-use lib.Dec.{eqb, ltb}
+use lib.Dec.{ltb}
 use lib.ListN.{length, drop}
 use Rattle.records.specs.Stages.{pairs}
 use Rattle.item.specs.Items.{Fields, fields, items}
 use Rattle.lists.specs.Lists.{rises}
-use Rattle.cut.specs.Pieces.{Piece, made, itemsOf, insertAll}
+use Rattle.cut.specs.Pieces.{Piece, itemsOf}
 use Rattle.cut.specs.Edits.{Edit, edits}
 use Rattle.plan.specs.Plans.{Add}
 use Rattle.plan.specs.Outputs.{editBytes}
 use Rattle.lines.specs.Lines.{Laid}
-use Rattle.edits.specs.Pieced.{addsIn, pieceItem, pieceItems}
-use Rattle.edits.specs.declared.Next.{Next}
-use Rattle.edits.specs.declared.Place.{Place}
-
--- a list's items from number i on
-abbrev pub from : List ℕ → ℕ → List Fields
-from s i = drop i (items s)
+use Rattle.merge.specs.Merge.{from, together, Head}
+use Rattle.plan.specs.Reading.{addsIn}
+use Rattle.edits.specs.Pieced.{pieceItem, pieceItems}
+use Rattle.merge.specs.declared.Next.{Next}
+use Rattle.merge.specs.declared.Place.{Place}
 
 -- the next piece comes before all items that are left
 abbrev pub pieceFirst : List Fields → List Add → Bool
@@ -28,29 +26,15 @@ pieceFirst gs [] = false
 pieceFirst [] (a ∷ adds) = true
 pieceFirst (g ∷ gs) (a ∷ adds) = ltb (a .key) (g .key)
 
--- the old list's next key comes before the next new one, if there is one: it goes
-abbrev pub gone : Bool → ℕ → List Fields → Bool
-gone some key [] = false
-gone some key (f ∷ fs) = not some || ltb (f .key) key
-
--- the old items behind a key that is put
-abbrev pub behind : ℕ → List Fields → List Fields
-behind k [] = []
-behind k (f ∷ fs) = cond (eqb (f .key) k) fs (f ∷ fs)
-
 module _ (file generation : ℕ) where
-  -- new items: pieces put in among others
-  abbrev pub together : List Add → List Fields → List Piece
-  together adds gs = insertAll (map (pieceItem file generation) adds) (map made gs)
-
   module _ (segment pieces : List ℕ) where
     -- the new items that are left from item j of the segment and piece k on
     abbrev pub news : (j k : ℕ) → List Piece
-    news j k = together (drop k (addsIn pieces)) (from segment j)
+    news j k = together (map (pieceItem file generation) (drop k (addsIn pieces))) (from segment j)
 
     -- the first of them and what is left behind it, or that none is left
     pub record IsNext (j₀ k₀ : ℕ) (next : Next) : Type 0 where
-      pub some : next .some ≡ true → news j₀ k₀ ≡ made (fields (next .item)) ∷ news (next .j) (next .k)
+      pub head : Head (next .some) (fields (next .item)) (news j₀ k₀) (news (next .j) (next .k))
       pub none : next .some ≡ false → (length segment / 70 ≤ j₀) × (length pieces / 3 ≤ k₀)
       pub on : next .some ≡ true → j₀ + k₀ < next .j + next .k
       pub j : next .j ≤ length segment / 70

@@ -1,17 +1,9 @@
 -- New preallocated extents as the items of a file: the output `adds`, read again.
 use mathlib.Core.List.{List, map}
 use Prim.Native.Nat.{ℕ}
-use lib.ListN.{getD}
-use Rattle.records.specs.Records.{records}
 use Rattle.item.specs.Items.{Fields, regularItem, ofKind}
 use Rattle.plan.specs.Plans.{Add}
-
--- three numbers each: start, length, key
-unfoldable pub addOf : List ℕ → Add
-addOf s = record { start = getD s 0 0; length = getD s 1 0; key = getD s 2 0 }
-
-unfoldable pub addsIn : List ℕ → List Add
-addsIn numbers = records addOf 3 numbers
+use Rattle.plan.specs.Reading.{addsIn}
 
 -- the preallocated item over the whole of a new extent
 abbrev pub pieceItem : (file generation : ℕ) → Add → Fields

@@ -1,5 +1,6 @@
-// Runs the compiled `punch_hole` and `fallocate` on the worked examples of document 01 and on further cases, and prints
+// Runs the compiled `punch_hole`, `fallocate` and `clone_range` on the worked examples of document 01 and on further cases, and prints
 // each answer with the lines of its plan.
+mod clones;
 mod fallocates;
 mod lent;
 mod print;
@@ -8,4 +9,5 @@ mod punches;
 fn main() {
     punches::all();
     fallocates::all();
+    clones::all();
 }

@@ -19,7 +19,7 @@ use Rattle.change.specs.declared.RangeChange.{RangeChange}
 use Rattle.change.specs.declared.Fill.{Fill}
 use Rattle.change.specs.Changes.{Change}
 use Rattle.change.specs.Sweep.{filledOf}
-use Rattle.fallocate.specs.Fallocate.{endRewritten, endSector, endStop, newSize, itemRefusal, fallocateChange}
+use Rattle.fallocate_plan.specs.Fallocate.{endRewritten, endSector, endStop, newSize, itemRefusal, fallocateChange}
 use Rattle.fallocate.specs.Raw.{itemBetween, endChange, fillOf}
 use Rattle.fallocate.proofs.Sweep.{holes-swept}
 

@@ -1,10 +1,4 @@
-pub mod Examples
-pub mod Less
-pub mod Holes
 pub mod Sweep
 pub mod Asking
 pub mod Refusing
-pub mod Planned
-pub mod Fair
-pub mod Shown
 pub mod Operating

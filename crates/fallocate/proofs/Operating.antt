@@ -26,12 +26,12 @@ use Rattle.change.specs.Sweep.{filledOf}
 use Rattle.change.proofs.Fair.{Fair}
 use Rattle.drafts.specs.Raw.{Asked}
 use Rattle.punch.specs.Raw.{rangeLent}
-use Rattle.punch.proofs.Planned.{records-ranged, ground-items, ground-sound}
-use Rattle.punch.proofs.Operating.{Passed, passed, shares-many, two-refused, refuses, passes}
-use Rattle.fallocate.specs.Fallocate.{fallocateChange, fallocateRefusal, fallocate, fallocateLent}
+use Rattle.punch_plan.proofs.Planned.{records-ranged, ground-items, ground-sound}
+use Rattle.punch.proofs.Operating.{passed, shares-many, two-refused, refuses, passes}
+use Rattle.fallocate_plan.specs.Fallocate.{fallocateChange, fallocateRefusal, fallocate, fallocateLent}
 use Rattle.fallocate.specs.Raw.{endChange, fillOf, refusalLent}
 use Rattle.fallocate.proofs.Asking.{filled-is}
-use Rattle.fallocate.proofs.Fair.{fair}
+use Rattle.fallocate_plan.proofs.Fair.{fair}
 use Rattle.fallocate.proofs.Refusing.{Fit, fit, range-passed}
 
 -- a refusal, or a plan: never nothing to do

@@ -23,13 +23,13 @@ use Rattle.change.specs.declared.Fill.{Fill}
 use Rattle.change.specs.Sweep.{sweep}
 use Rattle.change.proofs.Rounding.{up-limit, sector-limit}
 use Rattle.change.proofs.Sweep.{sum-some}
-use Rattle.punch.specs.Punch.{rangeRefusal}
+use Rattle.punch_plan.specs.Punch.{rangeRefusal}
 use Rattle.punch.specs.Raw.{rangeLent}
-use Rattle.punch.proofs.Planned.{records-ranged}
+use Rattle.punch_plan.proofs.Planned.{records-ranged}
 use Rattle.punch.proofs.Operating.{passed}
-use Rattle.fallocate.specs.Fallocate.{itemRefusal, holesToAllocate, fallocateRefusal}
+use Rattle.fallocate_plan.specs.Fallocate.{itemRefusal, holesToAllocate, fallocateRefusal}
 use Rattle.fallocate.specs.Raw.{endChange, fillOf, refusalLent}
-use Rattle.fallocate.proofs.Holes.{holes-sum}
+use Rattle.fallocate_plan.proofs.Holes.{holes-sum}
 use Rattle.fallocate.proofs.Sweep.{holes-swept}
 
 -- ---- the sum of the holes

@@ -18,7 +18,7 @@ use Rattle.change.specs.Sweep.{upTo, gapsFrom, gaps, halves, sweep, holesIn}
 use Rattle.change.specs.Rounding.{roundDown}
 use Rattle.change.proofs.Rounding.{down-below, up-above}
 use Rattle.change.proofs.Sweep.{some}
-use Rattle.fallocate.specs.Fallocate.{endRewritten, less, lessItems, from, to, endSector, endStop, holesToAllocate}
+use Rattle.fallocate_plan.specs.Fallocate.{endRewritten, less, lessItems, from, to, endSector, endStop, holesToAllocate}
 
 -- ---- one stretch
 

@@ -1,2 +1,1 @@
-pub mod Fallocate
 pub mod Raw

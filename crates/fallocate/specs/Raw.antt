@@ -13,7 +13,7 @@ use Rattle.request.specs.Lent.{listBroken, tableBroken}
 use Rattle.change.specs.Rounding.{roundDown, roundUp}
 use Rattle.change.specs.declared.RangeChange.{RangeChange}
 use Rattle.change.specs.declared.Fill.{Fill}
-use Rattle.fallocate.specs.Fallocate.{endRewritten, newSize, fallocateRefusal}
+use Rattle.fallocate_plan.specs.Fallocate.{endRewritten, newSize, fallocateRefusal}
 
 -- 10 and 11 of an item, for the rounded range [lo, hi)
 abbrev pub itemBetween : (size lo hi : ℕ) → Fields → ℕ

@@ -25,7 +25,7 @@ ghost use Rattle.item.specs.Items.{fields, items};
 ghost use Rattle.request.specs.Lent.{sectorSound};
 ghost use Rattle.segment.specs.Segments.{Runs};
 ghost use Rattle.plan.specs.Outputs.{outs, roomsOf, Met};
-ghost use Rattle.fallocate.specs.Fallocate.{endRewritten, itemRefusal, holesToAllocate, fallocateLent};
+ghost use Rattle.fallocate_plan.specs.Fallocate.{endRewritten, itemRefusal, holesToAllocate, fallocateLent};
 ghost use Rattle.fallocate.specs.Raw.{itemBetween, endChange, fillOf, refusalLent};
 
 // ---- what is asked of a change

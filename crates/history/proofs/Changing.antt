@@ -15,8 +15,8 @@ use Rattle.table.specs.declared.Found.the-variants.{At, Missing}
 use Rattle.lists.proofs.Laws.{well-kept}
 use Rattle.request.proofs.Stages.{Accepted}
 use Rattle.cut.specs.Mappings.{mapping}
-use Rattle.cut.specs.Pieces.{Piece, itemsOf}
-use Rattle.cut.specs.Refs.{Ref, refPasses, naming}
+use Rattle.cut.specs.Pieces.{itemsOf}
+use Rattle.cut.specs.Refs.{refPasses, naming}
 use Rattle.cut.specs.Edits.{itemsAfter}
 use Rattle.refs.proofs.Drops.{isFound, held-unshared}
 use Rattle.refs.proofs.Lines.{rowed-stage}
@@ -31,10 +31,10 @@ use Rattle.change.proofs.Steps.{kept-after, whole-after, edits-give}
 use Rattle.change.proofs.Balance.{balance, adds-fresh, shares-named}
 use Rattle.change.proofs.Released.{released-only, released-always}
 use Rattle.change.proofs.Fits.{lines-rowed, rising, adds-some}
-use Rattle.punch.proofs.Planned.{ground-items}
-use Rattle.apply.specs.Apply.{rowMissing}
-use Rattle.apply.proofs.Adds.{rows-sound, rows-clear, rows-apart, each-sound, two-apart}
-use Rattle.apply.proofs.Refusals.{Fit}
+use Rattle.punch_plan.proofs.Planned.{ground-items}
+use Rattle.applying.specs.Apply.{rowMissing}
+use Rattle.applying.proofs.Adds.{rows-sound, rows-clear, rows-apart, each-sound, two-apart}
+use Rattle.applying.proofs.Refusals.{Fit}
 use Rattle.history.specs.States.{State, listOf, TrueTable}
 use Rattle.history.specs.Calls.{Call, Lent, lentOf, volumeOf, fileOf, changes, origin}
 use Rattle.history.specs.Claims.{Outside, addRef}

@@ -1,7 +1,7 @@
 -- Every plan of a clone is lawful. Assumes nothing.
 use mathlib.Core.Path.{_≡_, refl, ap, _∙_, sym}
 use mathlib.Core.Bool.{Bool, true, false, cond}
-use mathlib.Core.List.{List, [], _++_, List·Memᴰ, List·Memᴰ·not-nil}
+use mathlib.Core.List.{List, [], _++_, List·Memᴰ·not-nil}
 use Prim.Native.Nat.{ℕ, _+_, _-_, _<_, _≤_}
 use native.Mathlib.Omega.{arith}
 use lib.Dec.{eqb}
@@ -9,25 +9,22 @@ use borrow.Author.Tests.{eqb-false, not-true}
 use Rattle.records.specs.Stages.{every, pairs}
 use Rattle.records.specs.Select.{count}
 use Rattle.item.specs.Items.{Fields}
-use Rattle.table.specs.declared.Row.{Row}
 use Rattle.request.specs.declared.File.{File}
 use Rattle.request.specs.Answers.{plan}
-use Rattle.request.proofs.Stages.{Accepted2}
 use Rattle.cut.specs.Pieces.{Piece, itemsOf}
-use Rattle.cut.specs.Refs.{Ref, naming}
-use Rattle.plan.specs.Plans.{Plan, Add}
-use Rattle.clone.specs.declared.Span.{Span}
-use Rattle.clone.proofs.Planned.{Planned, planned, srcItems}
+use Rattle.cut.specs.Refs.{naming}
+use Rattle.plan.specs.Plans.{Plan}
+use Rattle.spans.specs.declared.Span.{Span}
+use Rattle.clone_plan.proofs.Planned.{Planned, planned, srcItems}
 use Rattle.refs.proofs.Lines.{rowed-stage}
 use Rattle.lists.proofs.Laws.{well-kept}
-use Rattle.apply.specs.Apply.{rowMissing}
-use Rattle.apply.proofs.Refusals.{Fit}
-use Rattle.clone.proofs.Laws.{after, after-kept, applied-pieces, mapping-outside}
-use Rattle.clone.proofs.Fits.{rising, sectors-now, lines-rowed}
-use Rattle.clone.proofs.References.{balance, shared-named, released-only, released-always}
-use Rattle.history.specs.States.{State, listOf, total, TrueTable}
+use Rattle.applying.specs.Apply.{rowMissing}
+use Rattle.applying.proofs.Refusals.{Fit}
+use Rattle.clone_plan.proofs.Laws.{after, after-kept, applied-pieces, mapping-outside}
+use Rattle.clone_plan.proofs.Fits.{rising, sectors-now, lines-rowed}
+use Rattle.clone_plan.proofs.References.{balance, shared-named, released-only, released-always}
+use Rattle.history.specs.States.{State, listOf, total}
 use Rattle.history.specs.Calls.{Call, Lent, cloning, volumeOf, fileOf, answerOf}
-use Rattle.history.specs.Claims.{Outside}
 use Rattle.history.proofs.Lawful.{itemsNow, Lawful}
 use Rattle.history.proofs.Files.{missing-none, total-one, total-two, others, with-others, with-others-now, true-row}
 

@@ -6,8 +6,8 @@ use Prim.Native.Nat.{ℕ, _+_}
 use Rattle.records.specs.Stages.{unless, first}
 use Rattle.request.specs.Answers.{plan}
 use Rattle.plan.specs.Plans.{Plan}
-use Rattle.apply.proofs.Refusals.{Fit, applying-refused}
-use Rattle.history.specs.States.{State, listOf, TrueTable}
+use Rattle.applying.proofs.Refusals.{Fit, applying-refused}
+use Rattle.history.specs.States.{State, listOf}
 use Rattle.history.specs.Calls.{Call, punching, fallocating, cloning, lentOf, answerOf}
 use Rattle.history.specs.Claims.{Demand3, RefusedOnly, overLong}
 use Rattle.history.proofs.Lawful.{Lawful}

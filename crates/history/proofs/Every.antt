@@ -17,8 +17,8 @@ use Rattle.table.specs.declared.Found.the-variants.{At, Missing}
 use Rattle.request.specs.Answers.{Outcome, plan, nothing, refused}
 use Rattle.cut.specs.Refs.{Ref, sameRef, referring}
 use Rattle.plan.specs.Plans.{Plan, Add}
-use Rattle.apply.specs.Apply.{gained, lost, rowsAfter}
-use Rattle.apply.proofs.Rows.{Counted, Accepted, apply-cases, addsAt, adds-once, added-counted, moved-counted, missing-counts}
+use Rattle.applying.specs.Apply.{gained, lost, rowsAfter}
+use Rattle.applying.proofs.Rows.{Counted, Accepted, apply-cases, addsAt, adds-once, added-counted, moved-counted, missing-counts}
 use Rattle.history.specs.States.{State, listOf, withList, total, TrueTable}
 use Rattle.history.specs.Calls.{Call, Applied, lentOf, answerOf, afterApplying, traceOf, stepOf, stepTrace, step, run, trace}
 use Rattle.history.specs.Claims.{StayKept, MappingsKept, Each, sumFor, plus, minus, Balanced, lineAt, ReleasedAtZero, unmarked, Demand3}

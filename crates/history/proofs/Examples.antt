@@ -23,10 +23,11 @@ use Rattle.plan.specs.Places.{placed, placesSound}
 use Rattle.change.specs.Preallocs.{piecesFrom, sumOf}
 use Rattle.change.specs.Rewrites.{holderOf, eachInPlace}
 use Rattle.change.specs.Changes.{newItems, writesAnew, piecesWritten, piecesJoined, drops, changeRefusal, piecesAfter, changed}
-use Rattle.punch.specs.Punch.{firstHeld, planPunch, rangeRefusal, punch}
-use Rattle.fallocate.specs.Fallocate.{lessItems, holesToAllocate, fallocateRefusal, fallocate}
-use Rattle.clone.specs.Clone.{lentAndSource, cloneRefusal, clone, piecesAfter as clonePieces}
-use Rattle.apply.specs.Apply.{insertRow, insertRows, rowsAfter, applyRefusal, apply}
+use Rattle.punch_plan.specs.Punch.{firstHeld, planPunch, rangeRefusal, punch}
+use Rattle.fallocate_plan.specs.Fallocate.{lessItems, holesToAllocate, fallocateRefusal, fallocate}
+use Rattle.clone_plan.specs.Clone.{lentAndSource, cloneRefusal, drafted, clone}
+use Rattle.copies.specs.Replacing.{piecesNow as clonePieces}
+use Rattle.applying.specs.Apply.{insertRow, insertRows, rowsAfter, applyRefusal, apply}
 use Rattle.history.specs.States.{State, FileList, listOf, withList, total}
 use Rattle.history.specs.Calls.{Call, Lent, punching, fallocating, cloning, answerOf, run, trace}
 
@@ -100,5 +101,5 @@ right : shown ≡ (
       ∷ (0 ∷ 2097152 ∷ 1 ∷ [])
       ∷ [],
 )
-unfolding shown start lent range calls after fileShown rowsShown first firstOf stage every pairs neighbours keep any count flatMap tableKept findFrom wellKept lentRefusal lentRefusal2 holder cutPieces insert insertAll countedBytes joinAround joinAll edits itemsAfter insertRef sorted without minus held dueOf refusedOr placed placesSound piecesFrom holderOf eachInPlace newItems writesAnew piecesWritten piecesJoined drops changeRefusal piecesAfter changed firstHeld planPunch rangeRefusal punch lessItems holesToAllocate sumOf fallocateRefusal fallocate lentAndSource cloneRefusal clone clonePieces insertRow insertRows rowsAfter applyRefusal apply listOf withList total answerOf run trace
+unfolding shown start lent range calls after fileShown rowsShown first firstOf stage every pairs neighbours keep any count flatMap tableKept findFrom wellKept lentRefusal lentRefusal2 holder cutPieces insert insertAll countedBytes joinAround joinAll edits itemsAfter insertRef sorted without minus held dueOf refusedOr placed placesSound piecesFrom holderOf eachInPlace newItems writesAnew piecesWritten piecesJoined drops changeRefusal piecesAfter changed firstHeld planPunch rangeRefusal punch lessItems holesToAllocate sumOf fallocateRefusal fallocate lentAndSource cloneRefusal drafted clone clonePieces insertRow insertRows rowsAfter applyRefusal apply listOf withList total answerOf run trace
 right = refl

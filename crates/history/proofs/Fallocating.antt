@@ -11,12 +11,12 @@ use Rattle.request.specs.Answers.{plan}
 use Rattle.cut.specs.Mappings.{mapping}
 use Rattle.plan.specs.Plans.{Plan}
 use Rattle.change.specs.Rounding.{roundDown}
-use Rattle.fallocate.proofs.Planned.{Planned, planned, change}
-use Rattle.fallocate.proofs.Fair.{planned-fair}
-use Rattle.fallocate.proofs.Shown.{allocated-shown}
-use Rattle.apply.proofs.Refusals.{Fit}
+use Rattle.fallocate_plan.proofs.Planned.{Planned, planned, change}
+use Rattle.fallocate_plan.proofs.Fair.{planned-fair}
+use Rattle.fallocate_plan.proofs.Shown.{allocated-shown}
+use Rattle.applying.proofs.Refusals.{Fit}
 use Rattle.history.specs.States.{State, listOf}
-use Rattle.history.specs.Calls.{Call, Lent, fallocating, volumeOf, fileOf, answerOf, changes}
+use Rattle.history.specs.Calls.{Lent, fallocating, volumeOf, fileOf, answerOf, changes}
 use Rattle.history.specs.Claims.{Outside}
 use Rattle.history.proofs.Lawful.{Lawful}
 use Rattle.history.proofs.Changing.{Changed, after, lawful, fit}

@@ -13,7 +13,7 @@ use Rattle.table.specs.declared.Found.{Found}
 use Rattle.table.specs.declared.Found.the-variants.{At, Missing}
 use Rattle.table.specs.Rows.{find, withRow}
 use Rattle.refs.proofs.Drops.{isFound}
-use Rattle.apply.specs.Apply.{rowMissing}
+use Rattle.applying.specs.Apply.{rowMissing}
 use Rattle.cut.specs.Refs.{Ref, naming}
 use Rattle.plan.specs.Plans.{Plan}
 use Rattle.history.specs.States.{FileList, State, listOf, withList, total, TrueTable}

@@ -13,7 +13,7 @@ use Rattle.cut.specs.Pieces.{itemsOf}
 use Rattle.cut.specs.Refs.{Ref, refPasses}
 use Rattle.cut.specs.Edits.{itemsAfter}
 use Rattle.plan.specs.Plans.{Plan, Add}
-use Rattle.apply.specs.Apply.{linesAt}
+use Rattle.applying.specs.Apply.{linesAt}
 use Rattle.history.specs.States.{State, listOf, withList, total, TrueTable}
 use Rattle.history.specs.Calls.{Call, lentOf, changes, origin}
 use Rattle.history.specs.Claims.{Outside, addRef, lineAt, unmarked}

@@ -10,12 +10,12 @@ use Rattle.request.specs.Answers.{plan}
 use Rattle.cut.specs.Mappings.{mapping}
 use Rattle.plan.specs.Plans.{Plan}
 use Rattle.change.specs.Rounding.{roundDown}
-use Rattle.punch.proofs.Planned.{Planned, planned}
-use Rattle.punch.proofs.Fair.{planned-fair}
-use Rattle.punch.proofs.Shown.{punched-shown}
-use Rattle.apply.proofs.Refusals.{Fit}
+use Rattle.punch_plan.proofs.Planned.{Planned, planned}
+use Rattle.punch_plan.proofs.Fair.{planned-fair}
+use Rattle.punch_plan.proofs.Shown.{punched-shown}
+use Rattle.applying.proofs.Refusals.{Fit}
 use Rattle.history.specs.States.{State, listOf}
-use Rattle.history.specs.Calls.{Call, Lent, punching, volumeOf, fileOf, answerOf, changes}
+use Rattle.history.specs.Calls.{Lent, punching, volumeOf, fileOf, answerOf, changes}
 use Rattle.history.specs.Claims.{Outside}
 use Rattle.history.proofs.Lawful.{Lawful}
 use Rattle.history.proofs.Changing.{Changed, after, lawful, fit}

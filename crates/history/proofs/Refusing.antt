@@ -11,13 +11,12 @@ use borrow.Author.Tests.{le-leb, eqb-true}
 use Rattle.records.specs.Stages.{every}
 use Rattle.records.proofs.Counts.{count-some}
 use Rattle.table.specs.declared.Row.{Row}
-use Rattle.table.specs.declared.Found.{Found}
 use Rattle.table.specs.declared.Found.the-variants.{At, Missing}
 use Rattle.table.specs.Rows.{tableKept, find}
 use Rattle.cut.specs.Refs.{Ref}
 use Rattle.plan.specs.Plans.{Plan, Add}
-use Rattle.apply.specs.Apply.{gained, lost, netSound}
-use Rattle.apply.proofs.Rows.{kept-mem, addsAt}
+use Rattle.applying.specs.Apply.{gained, lost, netSound}
+use Rattle.applying.proofs.Rows.{kept-mem, addsAt}
 use Rattle.history.specs.States.{State, total, TrueTable}
 use Rattle.history.specs.Calls.{Call, lentOf}
 use Rattle.history.specs.Claims.{countFits}

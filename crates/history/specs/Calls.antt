@@ -4,8 +4,6 @@
 use mathlib.Core.Bool.{Bool}
 use mathlib.Core.List.{List, [], _∷_, _++_}
 use Prim.Native.Nat.{ℕ, _+_}
-use Rattle.item.specs.Items.{Fields}
-use Rattle.table.specs.declared.Row.{Row}
 use Rattle.request.specs.declared.Volume.{Volume}
 use Rattle.request.specs.declared.File.{File}
 use Rattle.request.specs.declared.Range.{Range}
@@ -13,11 +11,12 @@ use Rattle.request.specs.Answers.{Outcome, plan, nothing, refused}
 use Rattle.plan.specs.Plans.{Plan}
 use Rattle.plan.specs.Outputs.{Rooms}
 use Rattle.change.specs.Rounding.{roundDown, roundUp}
-use Rattle.punch.specs.Punch.{punch}
-use Rattle.fallocate.specs.Fallocate.{fallocate, endSector, endStop}
-use Rattle.clone.specs.declared.Span.{Span}
-use Rattle.clone.specs.Clone.{clone, resolved, spanOf, chosen}
-use Rattle.apply.specs.Apply.{Applying, applied, refusal, apply}
+use Rattle.punch_plan.specs.Punch.{punch}
+use Rattle.fallocate_plan.specs.Fallocate.{fallocate, endSector, endStop}
+use Rattle.spans.specs.declared.Span.{Span}
+use Rattle.spans.specs.Spans.{resolved, spanOf}
+use Rattle.clone_plan.specs.Clone.{clone, chosen}
+use Rattle.applying.specs.Apply.{Applying, applied, refusal, apply}
 use Rattle.history.specs.States.{State, listOf, withList}
 
 -- what every call is lent beside the lists, the table and the sector

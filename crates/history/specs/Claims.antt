@@ -12,9 +12,9 @@ use Rattle.lists.specs.Lists.{wellKept}
 use Rattle.cut.specs.Mappings.{mapping}
 use Rattle.cut.specs.Refs.{Ref, sameRef, referring}
 use Rattle.plan.specs.Plans.{Plan, Add}
-use Rattle.apply.specs.Apply.{gained, lost, netSound, itemsNow, rowsNow, applyRefusal}
+use Rattle.applying.specs.Apply.{gained, lost, netSound, itemsNow, rowsNow, applyRefusal}
 use Rattle.history.specs.States.{State, listOf, total, TrueTable}
-use Rattle.history.specs.Calls.{Call, Lent, Stretch, Applied, lentOf, changes, origin, run, trace}
+use Rattle.history.specs.Calls.{Call, Stretch, Applied, lentOf, changes, origin, run, trace}
 
 -- 1: "lists once well kept still are"
 abbrev pub StayKept : State → State → Type 0

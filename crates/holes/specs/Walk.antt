@@ -2,9 +2,9 @@
 use mathlib.Core.Bool.{true}
 use mathlib.Core.List.{List, [], _∷_, _++_, flatMap}
 use mathlib.Core.Path.{_≡_}
-use Prim.Native.Nat.{ℕ, zero, suc, _+_, _≤_, _<_, _^_, min, max}
+use Prim.Native.Nat.{ℕ, zero, suc, _+_, _≤_, _^_, min, max}
 use lib.Dec.{leb}
-use lib.ListN.{drop, getD, length}
+use lib.ListN.{drop, length}
 use Rattle.records.specs.Stages.{every}
 use Rattle.item.specs.Items.{Fields, end}
 use Rattle.change.specs.Preallocs.{Span, pieceLimit, preallocPieces}

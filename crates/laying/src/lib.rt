@@ -53,11 +53,11 @@ fn lay_refs(
     ensures { λ r. ⌜ RefsLaid (planAt v f c p (now (list .entry)) (now (shared .entry)) (now (table .entry)) 0 0) r (now (shares .entry)) (now (unrefs .entry)) (now (releases .entry)) (now (shares .exit)) (now (unrefs .exit)) (now (releases .exit)) ⌝ }
 {
     let mut seg = [0u8; 280];
-    let k = changing::cut_of(c, p);
+    let k = changed_lines::cut_of(c, p);
     let s = changing::joined_segment(v, c, p, list, &mut seg);
     RefCounts {
-        shares: changing::put_shares(k, list, &seg, s, shares),
-        unrefs: changing::put_unrefs(k, list, shared, table, &seg, s, unrefs),
+        shares: changed_lines::put_shares(k, list, &seg, s, shares),
+        unrefs: changed_lines::put_unrefs(k, list, shared, table, &seg, s, unrefs),
         releases: drops::put_drops(k, true, list, shared, table, releases, 0),
     }
 }
@@ -82,8 +82,8 @@ fn lay_edits(
     let mut seg = [0u8; 420];
     let s = changing::changed_segment(v, f, c, p, x, y, list, &mut seg);
     Edited {
-        edits: changing::put_changes(f.number, v.generation + 1, list, &seg, s, pieces, edits),
-        bytes: changing::bytes_after(list, &seg, s),
+        edits: changed_lines::put_changes(f.number, v.generation + 1, list, &seg, s, pieces, edits),
+        bytes: changed_lines::bytes_after(list, &seg, s),
     }
 }
 
@@ -110,7 +110,7 @@ pub fn lay_plan(
 {
     let refs = lay_refs(v, f, c, p, list, shared, table, shares, unrefs, releases);
     let e = lay_edits(v, f, c, p, x, y, list, shared, table, pieces, edits);
-    let w = changing::put_writes(c, p, x, y, writes);
+    let w = changed_lines::put_writes(c, p, x, y, writes);
     Counts {
         refs,
         edits: e,

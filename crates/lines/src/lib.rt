@@ -49,7 +49,8 @@ pub fn put_add(out: &mut [u64], n: usize, start: u64, length: u64, key: u64) -> 
     n + 1
 }
 
-fn put_four(out: &mut [u64], at: usize, a: u64, b: u64, c: u64, d: u64)
+// Four numbers over out, from `at`.
+pub fn put_four(out: &mut [u64], at: usize, a: u64, b: u64, c: u64, d: u64)
     requires { ⌜ at + 4 ≤ length (now out) ⌝ }
     ensures { λ r. ⌜ now (out .exit) ≡ put (a ∷ b ∷ c ∷ d ∷ []) at (now (out .entry)) ⌝ }
 {

@@ -1,6 +1,6 @@
 -- Lists and records at each bound of the definitions, computed.
 use mathlib.Core.Path.{_≡_, refl}
-use mathlib.Core.Bool.{Bool, true}
+use mathlib.Core.Bool.{true}
 use mathlib.Core.List.{List, [], _∷_}
 use Prim.Native.Nat.{ℕ, _-_, _^_}
 use lib.Dec.{eqb}

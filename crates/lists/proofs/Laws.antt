@@ -13,7 +13,7 @@ use Rattle.records.specs.Stages.{unless, first, firstOf, every, pairs}
 use Rattle.records.proofs.Tests.{both-left, both-right, either, either-left, either-right, implied, first-zero, unless-zero, every-at, pairs-at}
 use Rattle.item.specs.Items.{Fields, ranged, end}
 use Rattle.lists.specs.Lists.{itemSound, rangeSound, rises, apart, wellKept, whole, recordRefusal}
-use Rattle.lists.proofs.Order.{Ranged, item-ranged}
+use Rattle.lists.proofs.Order.{item-ranged}
 
 -- ---- a well-kept list
 

@@ -99,14 +99,15 @@ fn follows(last: Last, item: Item) -> bool
     )
 }
 
-fn turn(file: u64, last: Last, item: Item) -> u8
+// Refusal 2 of an item behind what was passed.
+pub fn turn(file: u64, last: Last, item: Item) -> u8
     ensures { λ r. ⌜ r ≡ turn file last (fields item) ⌝ }
 {
     unless(both(item_sound(file, item), follows(last, item)), 2)
 }
 
 // The state after an item that the turn accepted.
-fn next(file: u64, last: Last, item: Item) -> Last
+pub fn next(file: u64, last: Last, item: Item) -> Last
     requires { ⌜ turn file last (fields item) ≡ 0 ⌝ }
     ensures { λ r. ⌜ r ≡ next last (fields item) ⌝ }
 {
@@ -147,18 +148,23 @@ pub fn list_refusal(list: &[u8], file: u64) -> u8
     0
 }
 
+// Whether an item of kind 1 or 2 has a key and a length of whole sectors.
+pub fn is_whole(item: Item, sector: u64) -> bool
+    requires { ⌜ 0 < sector ⌝ }
+    ensures { λ r. ⌜ r ≡ whole sector (fields item) ⌝ }
+{
+    let length = item.length();
+    either(
+        !is_ranged(item),
+        both(item.key % sector == 0, length % sector == 0),
+    )
+}
+
 fn whole_refusal(item: Item, sector: u64) -> u8
     requires { ⌜ 0 < sector ⌝ }
     ensures { λ r. ⌜ r ≡ unless (whole sector (fields item)) 4 ⌝ }
 {
-    let length = item.length();
-    unless(
-        either(
-            !is_ranged(item),
-            both(item.key % sector == 0, length % sector == 0),
-        ),
-        4,
-    )
+    unless(is_whole(item, sector), 4)
 }
 
 // Refusal 4 of a list: a key or length of kind 1 or 2 that is not whole sectors.

@@ -1,3 +1,4 @@
 pub mod Plans
 pub mod Places
 pub mod Outputs
+pub mod Reading

@@ -1,10 +1,3 @@
-pub mod Examples
-pub mod Planned
-pub mod Starts
-pub mod Shapes
-pub mod Fair
-pub mod Shown
-pub mod Writes
 pub mod Starting
 pub mod Sectors
 pub mod Operating

@@ -16,12 +16,11 @@ use Rattle.lists.specs.Lists.{recordRefusal}
 use Rattle.request.specs.declared.Volume.{Volume}
 use Rattle.request.specs.declared.File.{File}
 use Rattle.request.specs.declared.Range.{Range}
-use Rattle.request.specs.declared.Answer.the-variants.{Nothing}
 use Rattle.request.specs.Lent.{lent, listBroken, tableBroken}
 use Rattle.request.specs.Answers.{Outcome, nothing, refused}
 use Rattle.request.proofs.Stages.{Accepted, accepted}
 use Rattle.plan.specs.Plans.{Plan, refusedOr, orNothing}
-use Rattle.plan.specs.Outputs.{Rooms, Outs, Met}
+use Rattle.plan.specs.Outputs.{Rooms}
 use Rattle.change.specs.declared.RangeChange.{RangeChange}
 use Rattle.change.specs.declared.Fill.{Fill}
 use Rattle.change.specs.Preallocs.{Span, pieceLimit}
@@ -30,10 +29,10 @@ use Rattle.change.specs.Changes.{Change, changeOf, changed}
 use Rattle.change.specs.Sweep.{filledOf}
 use Rattle.change.proofs.Sweep.{punch-swept}
 use Rattle.drafts.specs.Raw.{Asked}
-use Rattle.punch.specs.Punch.{planPunch, rangeRefusal, punch, punchLent}
+use Rattle.punch_plan.specs.Punch.{planPunch, rangeRefusal, punch, punchLent}
 use Rattle.punch.specs.Raw.{rangeLent}
-use Rattle.punch.proofs.Planned.{records-ranged, ground-items, ground-sound}
-use Rattle.punch.proofs.Fair.{asked, fair}
+use Rattle.punch_plan.proofs.Planned.{records-ranged, ground-items, ground-sound}
+use Rattle.punch_plan.proofs.Fair.{asked, fair}
 
 -- a refusal, and what follows if there is none
 pub two-refused : (x y : ℕ) (o : Outcome Plan) → refusedOr x (refusedOr y o) ≡ refusedOr (first x y) o
@@ -130,6 +129,3 @@ module _ (v : Volume) (f : File) (r : Range) (list shared table : List ℕ) wher
         → some (changeOf c (f .size)) ≡ planPunch (items list) (f .size) (v .sector) (r .offset) (r .offset + r .length)
         → punchLent v f r list shared table places rooms ≡ changed (groundOf v f (items list) shared (rows table)) (filledOf c w (items list)) pieceLimit places rooms
     punch-changed z c w pw e = whole ∙ passes _ rest z ∙ rw (← e, no-holes c w pw) refl
-
-pub met-nothing : (file : ℕ) (o : Outcome Plan) (before : Outs) → o ≡ nothing → Met file o Nothing before before
-met-nothing file o before e = rw e (record { answer = refl; outputs = refl })

@@ -3,7 +3,7 @@ use mathlib.Core.Path.{_≡_, refl, ap, _∙_, sym}
 use mathlib.Core.Bool.{Bool, true, false, cond, _&&_, not}
 use mathlib.Core.List.{List, [], _∷_}
 use mathlib.Core.Option.{none, some}
-use Prim.Native.Nat.{ℕ, _+_, _-_, _≤_, _<_, _^_}
+use Prim.Native.Nat.{ℕ, _+_, _-_, _<_, _^_}
 use native.Mathlib.Omega.{arith}
 use lib.Dec.{eqb, ltb}
 use lib.ListN.{length}
@@ -22,7 +22,7 @@ use Rattle.change.proofs.Rewrites.{holder-item}
 use Rattle.change.proofs.Rounding.{down-below, sector-range}
 use Rattle.rewrites.specs.declared.Holder.{Holder}
 use Rattle.rewrites.specs.Raw.{heldIn, holderIn}
-use Rattle.punch.specs.Punch.{firstHeld, startIn, heldBy, inOneSector, withinSector, acrossSectors, punchChange, changeFrom, planPunch}
+use Rattle.punch_plan.specs.Punch.{firstHeld, startIn, heldBy, inOneSector, withinSector, acrossSectors, punchChange, changeFrom, planPunch}
 use Rattle.punch.specs.Raw.{offsetIn}
 use Rattle.punch.specs.declared.Start.{Start}
 

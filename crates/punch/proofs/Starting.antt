@@ -10,7 +10,7 @@ use lib.ListN.{drop}
 use borrow.Author.Tests.{leb-true, leb-false, lt-ltb, le-ltb}
 use Rattle.records.proofs.Loops.{rest, rest-cons, rest-nil}
 use Rattle.item.specs.Items.{Fields, decode, hole, end}
-use Rattle.punch.specs.Punch.{lower, firstHeld}
+use Rattle.punch_plan.specs.Punch.{lower, firstHeld}
 use Rattle.punch.specs.Raw.{offsetIn, withItem}
 use Rattle.punch.specs.declared.Start.{Start}
 

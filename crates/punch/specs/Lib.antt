@@ -1,2 +1,1 @@
-pub mod Punch
 pub mod Raw

@@ -11,7 +11,7 @@ use Rattle.request.specs.declared.Volume.{Volume}
 use Rattle.request.specs.declared.File.{File}
 use Rattle.request.specs.declared.Range.{Range}
 use Rattle.request.specs.Lent.{listBroken, tableBroken}
-use Rattle.punch.specs.Punch.{lower, rangeRefusal}
+use Rattle.punch_plan.specs.Punch.{lower, rangeRefusal}
 use Rattle.change.specs.Changes.{Change, changeOf}
 use Rattle.punch.specs.declared.Start.{Start}
 use Rattle.punch.specs.declared.PunchPlan.{PunchPlan}

@@ -20,7 +20,7 @@ ghost use Rattle.item.specs.Items.{fields, items};
 ghost use Rattle.request.specs.Lent.{sectorSound};
 ghost use Rattle.plan.specs.Outputs.{outs, roomsOf, Met};
 ghost use Rattle.change.specs.Changes.{changeOf};
-ghost use Rattle.punch.specs.Punch.{lower, firstHeld, inOneSector, withinSector, acrossSectors, punchChange, planPunch, punchLent};
+ghost use Rattle.punch_plan.specs.Punch.{lower, firstHeld, inOneSector, withinSector, acrossSectors, punchChange, planPunch, punchLent};
 ghost use Rattle.punch.specs.Raw.{offsetIn, withItem, planIn, rangeLent};
 
 // An offset of the file, if there is one.

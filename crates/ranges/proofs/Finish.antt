@@ -1,15 +1,14 @@
 -- The second half of a plan: places, room, and the outputs. Assumes nothing.
 use mathlib.Core.Path.{_≡_, refl, ap, _∙_, sym}
-use mathlib.Core.Bool.{Bool, true, false, cond, _&&_}
+use mathlib.Core.Bool.{Bool, true, false, cond}
 use mathlib.Core.List.{List, [], _∷_, _++_, map, flatMap}
 use Prim.Native.Nat.{ℕ, zero, suc, _+_, _-_, _*_, _/_, _≤_}
 use native.Mathlib.Omega.{arith}
 use native.Mathlib.Nat.{zero-add, le-div-iff-mul-le}
-use lib.Dec.{leb}
 use lib.ListN.{length, getD, take, drop, replicate, length-map, length-append, length-replicate}
-use borrow.Author.Tests.{leb-true}
 use Rattle.records.specs.Stages.{unless, first, firstOf}
-use Rattle.records.proofs.Tests.{both-left, both-right, first-zero, unless-zero, first-last}
+use Rattle.records.proofs.Lists.{every-true}
+use Rattle.records.proofs.Tests.{first-zero, unless-zero, first-last}
 use Rattle.item.specs.Items.{Fields, items}
 use Rattle.table.specs.declared.Row.{Row}
 use Rattle.table.specs.Rows.{rows}
@@ -25,11 +24,11 @@ use Rattle.plan.specs.Plans.{Plan, Add, Write, numbers, refusedOr}
 use Rattle.plan.specs.Places.{Wanted, placed, placesSound}
 use Rattle.plan.specs.Outputs.{Rooms, Outs, outs, roomsOf, roomFor, left, Met, editBytes, refNumbers, addNumbers, writeNumbers}
 use Rattle.plan.proofs.Places.{placed-length, places-count}
-use Rattle.plan.proofs.Outputs.{edit-length}
 use Rattle.lines.specs.Lines.{lay, Laid}
-use Rattle.lines.proofs.Laws.{lay-put, length-lay}
+use Rattle.lines.proofs.Laws.{length-lay}
 use Rattle.lines.proofs.Again.{lay-read}
-use Rattle.edits.specs.Pieced.{addOf, addsIn, pieceItem, pieceItems}
+use Rattle.plan.specs.Reading.{addOf, addsIn}
+use Rattle.edits.specs.Pieced.{pieceItem, pieceItems}
 use Rattle.change.specs.declared.RangeChange.{RangeChange}
 use Rattle.change.specs.declared.Fill.{Fill}
 use Rattle.change.specs.Rewrites.{Ground}
@@ -45,66 +44,12 @@ use Rattle.rewrites.specs.Raw.{lentGround}
 use Rattle.changing.specs.declared.Parts.{Parts}
 use Rattle.changing.specs.Sides.{frontNew, backNew, sides}
 use Rattle.laying.specs.declared.Counts.{Counts}
+use Rattle.laying.proofs.Outputs.{fitting, outputs-laid, met-refused}
 use Rattle.laying.specs.Laid.{Pieced, planAt, afterAt, editsAt, PlanLaid}
 use Rattle.drafts.specs.declared.Needs.{Needs}
 use Rattle.ranges.specs.Raw.{Accepted, FinishWhy}
 use Rattle.drafts.proofs.Filled.{pieced, edits-now, writes-now, shares-now, unrefs-now, releases-now}
 use Rattle.drafts.proofs.Drafting.{sides-count, draft-passed, sectors-many}
-
--- ---- a plan that has room lies in the outputs as it should
-
--- the parts of the room test
-pub record Fitting (o : Outs) (p : Plan) : Type 0 where
-  pub edits : length (p .edits) ≤ length (o .edits) / 71
-  pub shares : length (p .shares) ≤ length (o .shares) / 2
-  pub unrefs : length (p .unrefs) ≤ length (o .unrefs) / 2
-  pub releases : length (p .releases) ≤ length (o .releases) / 2
-  pub adds : length (p .adds) ≤ length (o .adds) / 3
-  pub writes : length (p .writes) ≤ length (o .writes) / 4
-
-fitting : (o : Outs) (p : Plan) → roomFor (roomsOf o) p ≡ true → Fitting o p
-fitting o p h =
-    let b1 : Bool = leb (length (p .edits)) (length (o .edits) / 71) in
-    let b2 : Bool = leb (length (p .shares)) (length (o .shares) / 2) in
-    let b3 : Bool = leb (length (p .unrefs)) (length (o .unrefs) / 2) in
-    let b4 : Bool = leb (length (p .releases)) (length (o .releases) / 2) in
-    let b5 : Bool = leb (length (p .adds)) (length (o .adds) / 3) in
-    let b6 : Bool = leb (length (p .writes)) (length (o .writes) / 4) in
-    let h2 = both-right b1 (b2 && (b3 && (b4 && (b5 && b6)))) h in
-    let h3 = both-right b2 (b3 && (b4 && (b5 && b6))) h2 in
-    let h4 = both-right b3 (b4 && (b5 && b6)) h3 in
-    let h5 = both-right b4 (b5 && b6) h4 in
-    record {
-      edits = leb-true _ _ (both-left b1 (b2 && (b3 && (b4 && (b5 && b6)))) h);
-      shares = leb-true _ _ (both-left b2 (b3 && (b4 && (b5 && b6))) h2);
-      unrefs = leb-true _ _ (both-left b3 (b4 && (b5 && b6)) h3);
-      releases = leb-true _ _ (both-left b4 (b5 && b6) h4);
-      adds = leb-true _ _ (both-left b5 b6 h5);
-      writes = leb-true _ _ (both-right b5 b6 h5);
-    }
-
--- a plan laid over the outputs lies there from their start
-outputs-laid :
-    (file : ℕ) (p : Plan) (before after : Outs) → roomFor (roomsOf before) p ≡ true
-    → after .edits ≡ lay (editBytes file) 71 0 (p .edits) (before .edits)
-    → after .shares ≡ lay refNumbers 2 0 (p .shares) (before .shares)
-    → after .unrefs ≡ lay refNumbers 2 0 (p .unrefs) (before .unrefs)
-    → after .releases ≡ lay refNumbers 2 0 (p .releases) (before .releases)
-    → after .adds ≡ lay addNumbers 3 0 (p .adds) (before .adds)
-    → after .writes ≡ lay writeNumbers 4 0 (p .writes) (before .writes)
-    → after ≡ left file (plan p) before
-outputs-laid file p before after h l1 l2 l3 l4 l5 l6 =
-    let t = fitting before p h in
-    let e1 = l1 ∙ lay-put (editBytes file) 71 (omega arith) (edit-length file) 0 (p .edits) (before .edits) (omega (arith, t .edits)) in
-    let e2 = l2 ∙ lay-put refNumbers 2 (omega arith) (λ r. refl) 0 (p .shares) (before .shares) (omega (arith, t .shares)) in
-    let e3 = l3 ∙ lay-put refNumbers 2 (omega arith) (λ r. refl) 0 (p .unrefs) (before .unrefs) (omega (arith, t .unrefs)) in
-    let e4 = l4 ∙ lay-put refNumbers 2 (omega arith) (λ r. refl) 0 (p .releases) (before .releases) (omega (arith, t .releases)) in
-    let e5 = l5 ∙ lay-put addNumbers 3 (omega arith) (λ r. refl) 0 (p .adds) (before .adds) (omega (arith, t .adds)) in
-    let e6 = l6 ∙ lay-put writeNumbers 4 (omega arith) (λ r. refl) 0 (p .writes) (before .writes) (omega (arith, t .writes)) in
-    λ i. record { edits = e1 i; shares = e2 i; unrefs = e3 i; releases = e4 i; adds = e5 i; writes = e6 i }
-
-pub met-refused : (file why : ℕ) (o : Outcome Plan) (before : Outs) → o ≡ refused why → Met file o (Refused why) before before
-met-refused file why o before e = rw e (record { answer = refl; outputs = refl })
 
 -- ---- places
 
@@ -289,10 +234,10 @@ module _ (v : Volume) (f : File) (c : RangeChange) (w : Fill) (p : Parts) (n : N
       part = take (m * 3 - k * 3) (drop (k * 3) adds′)
 
       part-read : addsIn part ≡ placed others′ (piecesWanted g′ d′ pieceLimit)
-      unfolding addsIn addOf
+      unfolding addOf
       part-read =
           rw (m-is, adds-laid)
-          (lay-read addNumbers 3 addOf (omega arith) (λ a. refl) (λ a s. refl) (q .adds) (before .adds) k room (omega (arith, adds-number, places-many, k-many, length-append (sectorsWanted g′ d′ pieceLimit) (piecesWanted g′ d′ pieceLimit)))
+          (lay-read addNumbers 3 addOf (omega arith) (λ a. refl) (λ a. true) (λ a u s. refl) (q .adds) (before .adds) k (every-true (q .adds)) room (omega (arith, adds-number, places-many, k-many, length-append (sectorsWanted g′ d′ pieceLimit) (piecesWanted g′ d′ pieceLimit)))
           ∙ ap (λ (l : List ℕ). drop k (placed l ws)) split
           ∙ ap (λ (i : ℕ). drop i (placed (first-places ++ others′) ws)) (sides-count front back x y)
           ∙ placed-drop first-places others′ (sectorsWanted g′ d′ pieceLimit) (piecesWanted g′ d′ pieceLimit) firsts)

@@ -8,9 +8,9 @@ use native.Mathlib.Omega.{arith}
 use lib.Dec.{eqb}
 use lib.ListN.{length, getD, take, drop}
 use borrow.Author.Tests.{eq-eqb}
-use Rattle.records.specs.Stages.{stage, every, pairs}
+use Rattle.records.specs.Stages.{first, stage, every, pairs}
 use Rattle.records.specs.Select.{keep, any}
-use Rattle.records.proofs.Tests.{both, both-left, both-right, either-left, either-right, stage-zero, every-map, every-both}
+use Rattle.records.proofs.Tests.{both, both-left, both-right, either-left, either-right, stage-zero, first-go, first-assoc, every-map, every-both}
 
 module _ {A : Type 0} where
   -- a test of all, of one of them
@@ -62,6 +62,15 @@ module _ {A : Type 0} where
 
   pub any-append : (p : A → Bool) (l m : List A) → (any p l || any p m) ≡ true → any p (l ++ m) ≡ true
   any-append p l m h = any-appended p l m ∙ h
+
+  -- a list of one
+  pub every-one : (p : A → Bool) (a : A) → p a ≡ true → every p (a ∷ []) ≡ true
+  unfolding every
+  every-one p a h = rw h refl
+
+  pub one-every : (p : A → Bool) (a : A) → every p (a ∷ []) ≡ true → p a ≡ true
+  unfolding every
+  one-every p a h = both-left (p a) true h
 
   -- and back: a test of a list, of its two parts
   pub every-parts : (p : A → Bool) (l m : List A) → every p (l ++ m) ≡ true → (every p l ≡ true) × (every p m ≡ true)
@@ -188,6 +197,12 @@ module _ {A : Type 0} where
       go true e false h s = s h
       go false e true h s = either-right (p a) (any p (keep q l)) (s h)
       go false e false h s = s h
+
+  -- a stage over two lists, one behind the other
+  pub stage-append : (f : A → ℕ) (l m : List A) → stage f (l ++ m) ≡ first (stage f l) (stage f m)
+  unfolding stage
+  stage-append f [] m = sym (first-go 0 (stage f m) refl)
+  stage-append f (a ∷ l) m = ap (first (f a)) (stage-append f l m) ∙ sym (first-assoc (f a) (stage f l) (stage f m))
 
   -- a stage that refuses nothing refuses no one
   pub stage-none : (f : A → ℕ) (l : List A) → stage f l ≡ 0 → every (λ (a : A). eqb (f a) 0) l ≡ true

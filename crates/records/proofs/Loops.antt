@@ -1,12 +1,13 @@
 -- One law of loops over the records of a list. Assumes nothing.
 use mathlib.Core.Path.{_≡_, refl, ap, _∙_, sym}
-use mathlib.Core.Bool.{Bool, cond}
+use mathlib.Core.Bool.{Bool, true, false, cond}
 use mathlib.Core.List.{List, [], _∷_}
 use Prim.Native.Nat.{ℕ, zero, suc, _+_, _-_, _*_, _/_, _<_, _≤_}
 use native.Mathlib.Omega.{arith}
 use native.Mathlib.Nat.{add-zero, add-comm, add-assoc, suc-mul, sub-zero, add-mul, one-mul, zero-mul, mul-one}
-use lib.ListN.{length, getD, drop}
-use lib.Seq.{drop-drop, getD-drop}
+use native.Mathlib.Numerals.{add-one}
+use lib.ListN.{length, getD, drop, drop-of-length-le}
+use lib.Seq.{drop-cons, drop-drop, getD-drop}
 use Rattle.records.specs.Records.{chunks, records}
 use Rattle.records.specs.Select.{count}
 use Rattle.records.specs.Stages.{first, stage, sieve}
@@ -47,6 +48,23 @@ module _ {A : Type 0} (d : List ℕ → A) (w : ℕ) where
   chunks-at (suc n) s (suc k) e h =
       let m : w + k * w ≡ suc k * w = add-comm w (k * w) ∙ sym (suc-mul k w) in
       chunks-at n (drop w s) k e (omega arith) ∙ rw (drop-drop (k * w) w s, m) refl
+
+  -- of all records: how many, which, and those from number i on
+  pub records-length : (s : List ℕ) → length (records d w s) ≡ length s / w
+  unfolding records
+  records-length s = chunks-length (length s / w) s
+
+  pub records-at : (s : List ℕ) (k : ℕ) (e : A) → k < length s / w → getD (records d w s) k e ≡ d (drop (k * w) s)
+  unfolding records
+  records-at s k e h = chunks-at (length s / w) s k e h
+
+  pub records-cons : (s : List ℕ) (i : ℕ) → i < length s / w → drop i (records d w s) ≡ d (drop (i * w) s) ∷ drop (i + 1) (records d w s)
+  records-cons s i h =
+      let l : i < length (records d w s) = omega (arith, records-length s) in
+      rw (add-one, drop-cons (records d w s) i (d s) l, records-at s i (d s) h) refl
+
+  pub records-nil : (s : List ℕ) (i : ℕ) → length s / w ≤ i → drop i (records d w s) ≡ []
+  records-nil s i h = drop-of-length-le (records d w s) {i = i} (omega (arith, records-length s))
 
   -- a turn of a loop that stops at the first refusal, from what the turn's calls ensure, and its end
   module _ (f : A → ℕ) (s : List ℕ) (n i : ℕ) (r : A) (x : ℕ) (h : i < n) (e : r ≡ d (drop (i * w) s)) (p : x ≡ f r) where
@@ -94,6 +112,11 @@ module _ {A : Type 0} (d : List ℕ → A) (w : ℕ) where
   pub count-done : (p : A → Bool) (s : List ℕ) (n i k : ℕ) → n ≤ i → k ≡ k + count p (rest s n i)
   unfolding count
   count-done p s n i k h = rw (rest-nil s n i h) (sym (add-zero k))
+
+-- a count grows by one at most in a turn
+pub one-more : (b : Bool) (n m j : ℕ) → m ≡ n + cond b 1 0 → n ≤ j → m ≤ j + 1
+one-more true n m j e h = omega arith
+one-more false n m j e h = omega arith
 
 -- ---- a list of plain numbers: records of width 1
 

@@ -187,6 +187,16 @@ every-keep p pick (a ∷ l) h = go (pick a) (every-keep p pick l (both-right (p 
     go true ih = both (p a) (every p (keep pick l)) (both-left (p a) (every p l) h) ih
     go false ih = ih
 
+-- and every two of it
+pub pairs-keep : {A : Type 0} (p : A → A → Bool) (pick : A → Bool) (l : List A) → pairs p l ≡ true → pairs p (keep pick l) ≡ true
+unfolding pairs keep
+pairs-keep p pick [] h = refl
+pairs-keep p pick (a ∷ l) h = go (pick a) (pairs-keep p pick l (both-right (every (p a) l) (pairs p l) h))
+  where
+    go : (b : Bool) → pairs p (keep pick l) ≡ true → pairs p (cond b (a ∷ keep pick l) (keep pick l)) ≡ true
+    go true ih = both (every (p a) (keep pick l)) (pairs p (keep pick l)) (every-keep (p a) pick l (both-left (every (p a) l) (pairs p l) h)) ih
+    go false ih = ih
+
 -- ---- picked and changed
 
 -- what is picked by a test and changed passes another, if it does so one by one

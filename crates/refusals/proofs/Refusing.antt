@@ -34,7 +34,7 @@ use Rattle.rewrites.specs.Raw.{lentGround}
 use Rattle.changing.specs.declared.Parts.{Parts}
 use Rattle.changing.specs.Raw.{Parting, Made}
 use Rattle.changing.specs.Sides.{sides, joinedPieces, cutOf, middle, comparedOf}
-use Rattle.changing.proofs.Spans.{segment-most}
+use Rattle.changed_lines.proofs.Spans.{segment-most}
 use Rattle.changing.proofs.Planned.{shares-most, shared-same, drops-same}
 
 -- ---- the two sides, each if it is there

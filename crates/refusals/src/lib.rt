@@ -68,9 +68,9 @@ pub fn shares_refusal(v: Volume, c: RangeChange, p: Parts, list: &[u8], table: &
 {
     let mut seg = [0u8; 280];
     let mut lines = [0u64; 8];
-    let k = changing::cut_of(c, p);
+    let k = changed_lines::cut_of(c, p);
     let s = changing::joined_segment(v, c, p, list, &mut seg);
-    let n = changing::put_more(k, list, &seg, s, &mut lines, 0);
+    let n = changed_lines::put_more(k, list, &seg, s, &mut lines, 0);
     let end = n * 2;
     compared::lines_refusal(&lines[0..end], table)
 }
@@ -94,6 +94,6 @@ pub fn change_refusal(
     let split = splits::splits_refusal(list, table, c.lo, c.hi);
     let rewrite = rewrites_refusal(v, f, c, list, shared, table);
     let share = shares_refusal(v, c, p, list, table);
-    let drop = drops::drops_refusal(changing::cut_of(c, p), list, table);
+    let drop = drops::drops_refusal(changed_lines::cut_of(c, p), list, table);
     first(split, first(rewrite, first(share, drop)))
 }

@@ -4,7 +4,7 @@ use mathlib.Core.List.{List, [], _∷_, _++_, append-assoc, append-nil}
 use mathlib.Core.Bool.{Bool, true, false}
 use Prim.Native.Nat.{ℕ, zero, suc, _+_, _*_, _/_, _^_, _<_, _≤_}
 use native.Mathlib.Omega.{arith}
-use native.Mathlib.Nat.{add-zero, zero-add, add-assoc, zero-mul, suc-add}
+use native.Mathlib.Nat.{add-zero, zero-add, add-assoc, zero-mul, suc-add, mul-le-mul-right, le-div-iff-mul-le, div-mul-le-self}
 use lib.ListN.{length, take, drop, set, length-append, length-take, length-drop}
 use lib.Seq.{drop-at, take-take, take-append-le, drop-append-le, drop-drop, take-nil, take-suc-set}
 use native.Mathlib.Numerals.{add-one}
@@ -46,31 +46,38 @@ decode-take s =
     let d : take 53 (drop 17 (take 70 s)) ≡ take 53 (drop 17 s) = ap (take 53) (drop-take 17 53 s) ∙ take-take 53 53 (drop 17 s) (omega arith) in
     rw (num-take 8 0 70 s (omega arith), num-take 1 8 70 s (omega arith), num-take 8 9 70 s (omega arith), d) refl
 
-length-encode : (f : Fields) → length (encode f) ≡ 70
+pub length-encode : (f : Fields) → length (encode f) ≡ 70
 unfolding encode
 length-encode f = simp (length-append, length-enc)
 
--- ---- one record put
+-- ---- one record put: d reads a record of w numbers, which f gives
 
-chunks-put : (f : Fields) → Sound f → (n k : ℕ) (s : List ℕ) → k < n → n * 70 ≤ length s → chunks decode 70 n (put (encode f) (k * 70) s) ≡ set (chunks decode 70 n s) k f
-unfolding chunks
-chunks-put f h zero k s l m = absurd (omega arith)
-chunks-put f h (suc n) zero s l m =
-    let e : put (encode f) (0 * 70) s ≡ encode f ++ drop 70 s = unfold put in rw (zero-mul, zero-add, length-encode) refl in
-    rw (e, decode-encode f (drop 70 s) h, drop-at (encode f) (drop 70 s) 70 (length-encode f)) refl
-chunks-put f h (suc n) (suc k) s l m =
-    let a : suc k * 70 ≡ 70 + k * 70 = omega arith in
-    let v : 70 ≤ length (drop 70 s) + 70 = simp length-drop (omega arith) in
-    let t : decode (put (encode f) (suc k * 70) s) ≡ decode s = sym (decode-take _) ∙ ap decode (take-put 70 (suc k * 70) (encode f) s (omega arith) (omega arith)) ∙ decode-take s in
-    let d : drop 70 (put (encode f) (suc k * 70) s) ≡ put (encode f) (k * 70) (drop 70 s) = rw a (drop-put 70 (k * 70) (encode f) s (omega arith)) in
-    ap₂ (λ (x : Fields) (xs : List Fields). x ∷ xs) t (ap (chunks decode 70 n) d ∙ chunks-put f h n k (drop 70 s) (omega arith) (simp length-drop (omega arith)))
+module _ {A : Type 0} (d : List ℕ → A) (f : A → List ℕ) (w : ℕ) (wide : (a : A) → length (f a) ≡ w) (own : (s : List ℕ) → d (take w s) ≡ d s) where
+  -- of one that is read again
+  chunks-put : (a : A) → ((s : List ℕ) → d (f a ++ s) ≡ a) → (n k : ℕ) (s : List ℕ) → k < n → n * w ≤ length s → chunks d w n (put (f a) (k * w) s) ≡ set (chunks d w n s) k a
+  unfolding chunks
+  chunks-put a r zero k s l m = absurd (omega arith)
+  chunks-put a r (suc n) zero s l m =
+      let e : put (f a) (0 * w) s ≡ f a ++ drop w s = unfold put in rw (zero-mul, zero-add, wide) refl in
+      rw (e, r (drop w s), drop-at (f a) (drop w s) w (wide a)) refl
+  chunks-put a r (suc n) (suc k) s l m =
+      let q : suc k * w ≤ n * w = mul-le-mul-right w (omega arith) in
+      let e : suc k * w ≡ w + k * w = omega arith in
+      let t : d (put (f a) (suc k * w) s) ≡ d s = sym (own _) ∙ ap d (take-put w (suc k * w) (f a) s (omega arith) (omega arith)) ∙ own s in
+      let u : drop w (put (f a) (suc k * w) s) ≡ put (f a) (k * w) (drop w s) = rw e (drop-put w (k * w) (f a) s (omega arith)) in
+      ap₂ (λ (x : A) (xs : List A). x ∷ xs) t (ap (chunks d w n) u ∙ chunks-put a r n k (drop w s) (omega arith) (simp length-drop (omega arith)))
 
--- a buffer is a list of items, and putting one in sets it
+  -- a buffer is a list of records, and putting one in sets it
+  pub records-put : 0 < w → (a : A) → ((s : List ℕ) → d (f a ++ s) ≡ a) → (k : ℕ) (s : List ℕ) → k < length s / w → records d w (put (f a) (k * w) s) ≡ set (records d w s) k a
+  unfolding records
+  records-put pos a r k s l =
+      let m : suc k * w ≤ length s = le-div-iff-mul-le {k = w} {x = suc k} {y = length s} pos .0 l in
+      let e : length (put (f a) (k * w) s) ≡ length s = length-put (f a) (k * w) s (omega (arith, wide a)) in
+      rw e (chunks-put a r (length s / w) k s l (div-mul-le-self (length s) w))
+
 pub items-put : (f : Fields) (k : ℕ) (s : List ℕ) → Sound f → k < length s / 70 → items (put (encode f) (k * 70) s) ≡ set (items s) k f
-unfolding items records
-items-put f k s h l =
-    let e : length (put (encode f) (k * 70) s) ≡ length s = length-put (encode f) (k * 70) s (omega (arith, length-encode f)) in
-    rw e (chunks-put f h (length s / 70) k s l (omega arith))
+unfolding items
+items-put f k s h l = records-put decode encode 70 length-encode decode-take (omega arith) f (λ t. decode-encode f t h) k s l
 
 -- the numbers of an item in code fit their widths
 pub item-sound : (i : Item) → Bytes (i .«data») → i .file < 2 ^ 64 → i .«key_type» < 256 → i .key < 2 ^ 64 → Sound (fields i)

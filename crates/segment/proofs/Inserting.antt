@@ -13,7 +13,7 @@ use borrow.Author.Tests.{leb-true, leb-false, ltb-true, ltb-false, lt-ltb, le-lt
 use Rattle.records.specs.Stages.{every}
 use Rattle.records.proofs.Tests.{both, both-left, both-right}
 use Rattle.item.specs.Items.{Fields, items}
-use Rattle.cut.specs.Pieces.{Piece, made, kept, insert}
+use Rattle.cut.specs.Pieces.{Piece, made, kept, insert, insertAll, replaced}
 use Rattle.segment.specs.declared.Segment.{Segment}
 use Rattle.segment.specs.Segments.{nothing, itemAt, segmentOf, pieces, leading, startsBy, startsPast, bounded, Good, Around, insertItem, Inserted}
 use Rattle.segment.proofs.Cutting.{leading-most}
@@ -102,6 +102,31 @@ insert-before x (f ∷ fs) ps h =
     rw (le-ltb (x .key) (f .key) (leb-true (f .key) (x .key) (both-left (startsBy (x .key) f) (every (startsBy (x .key)) fs) h)))
     (ap (λ (l : List Piece). kept f ∷ l) (insert-before x fs ps (both-right (startsBy (x .key) f) (every (startsBy (x .key)) fs) h)))
 
+-- into a list where a segment stands for a part of it
+insert-replaced : (x : Fields) (fs : List Fields) (from to : ℕ) (xs : List Fields) → every (startsBy (x .key)) (take from fs) ≡ true → every (startsPast (x .key)) (drop to fs) ≡ true → insert x (replaced fs from to xs) ≡ replaced fs from to (insertItem x xs)
+insert-replaced x fs from to xs a b = insert-before x (take from fs) _ a ∙ ap (λ (l : List Piece). map kept (take from fs) ++ l) (insert-within x xs (drop to fs) b)
+
+-- several
+unfoldable pub insertItems : List Fields → List Fields → List Fields
+insertItems [] xs = xs
+insertItems (y ∷ ys) xs = insertItems ys (insertItem y xs)
+
+pub insertAll-made : (ys xs : List Fields) → insertAll ys (map made xs) ≡ map made (insertItems ys xs)
+unfolding insertAll insertItems
+insertAll-made [] xs = refl
+insertAll-made (y ∷ ys) xs =
+    let e : insert y (map made xs) ≡ map made (insertItem y xs) = sym (ap (insert y) (append-nil (map made xs))) ∙ insert-within y xs [] (unfold every in refl) ∙ append-nil (map made (insertItem y xs)) in
+    rw e (insertAll-made ys (insertItem y xs))
+
+pub insertAll-replaced : (ys fs : List Fields) (from to : ℕ) (xs : List Fields) → every (λ (y : Fields). every (startsBy (y .key)) (take from fs)) ys ≡ true → every (λ (y : Fields). every (startsPast (y .key)) (drop to fs)) ys ≡ true → insertAll ys (replaced fs from to xs) ≡ replaced fs from to (insertItems ys xs)
+unfolding insertAll insertItems every
+insertAll-replaced [] fs from to xs a b = refl
+insertAll-replaced (y ∷ ys) fs from to xs a b =
+    let p : Fields → Bool = λ y. every (startsBy (y .key)) (take from fs) in
+    let q : Fields → Bool = λ y. every (startsPast (y .key)) (drop to fs) in
+    rw (insert-replaced y fs from to xs (both-left (p y) (every p ys) a) (both-left (q y) (every q ys) b))
+    (insertAll-replaced ys fs from to (insertItem y xs) (both-right (p y) (every p ys) a) (both-right (q y) (every q ys) b))
+
 every-inserted : (p : Fields → Bool) (x : Fields) (xs : List Fields) → p x ≡ true → every p xs ≡ true → every p (insertItem x xs) ≡ true
 unfolding every insertItem
 every-inserted p x [] h k = both (p x) true h refl
@@ -132,11 +157,7 @@ insert-lower x f xs = go (ltb (x .key) (f .key)) refl
 
 module _ (x : Fields) (list : List ℕ) (s : Segment) (seg : List ℕ) (r : Segment) (seg′ : List ℕ) (i : Inserted x s seg r seg′) where
   pub inserted-pieces : Around (x .key) list s → pieces list r seg′ ≡ insert x (pieces list s seg)
-  inserted-pieces a =
-      let fs = take (s .from) (items list) in
-      let bs = drop (s .to) (items list) in
-      rw (i .from, i .to, i .those)
-      (sym (insert-before x fs _ (a .before) ∙ ap (λ (l : List Piece). map kept fs ++ l) (insert-within x (segmentOf s seg) bs (a .behind))))
+  inserted-pieces a = rw (i .from, i .to, i .those) (sym (insert-replaced x (items list) (s .from) (s .to) (segmentOf s seg) (a .before) (a .behind)))
 
   pub inserted-good : Good list s seg → bounded x ≡ true → Good list r seg′
   inserted-good g b =

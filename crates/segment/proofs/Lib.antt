@@ -2,5 +2,4 @@ pub mod Buffer
 pub mod Cutting
 pub mod Segments
 pub mod Inserting
-pub mod Joining
 pub mod Spans

@@ -8,7 +8,6 @@ use lib.ListN.{length, getD, take, drop}
 use Rattle.records.specs.Stages.{every}
 use Rattle.item.specs.Items.{Fields, items, end, regularItem}
 use Rattle.cut.specs.Pieces.{Piece, replaced, cutPieces}
-use Rattle.cut.specs.Joins.{joinAround}
 use Rattle.segment.specs.declared.Segment.{Segment}
 
 -- what stands for an item past a list's end
@@ -87,14 +86,3 @@ pub record Inserted (x : Fields) (s : Segment) (seg : List ℕ) (r : Segment) (s
   pub count : r .count ≡ s .count + 1
   pub room : r .count ≤ length (items seg′)
   pub those : segmentOf r seg′ ≡ insertItem x (segmentOf s seg)
-
--- what joining around a sector gives. The segment may take in a record on either side; it keeps an item, and its first
--- one starts where it did, or before.
-pub record Joining (generation sector : ℕ) (list : List ℕ) (s : Segment) (seg : List ℕ) (r : Segment) (seg′ : List ℕ) : Type 0 where
-  pub same : pieces list r seg′ ≡ joinAround generation sector (pieces list s seg)
-  pub good : Good list r seg′
-  pub from : r .from ≤ s .from
-  pub to : s .to ≤ r .to
-  pub some : 0 < r .count
-  pub most : r .count ≤ s .count
-  pub first : itemAt seg′ 0 .key ≤ itemAt seg 0 .key

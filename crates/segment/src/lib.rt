@@ -4,17 +4,14 @@ use item::Item;
 use records::sum_at_most;
 use records::sum_past;
 ghost use mathlib.Core.Path.{_≡_};
-ghost use mathlib.Core.Bool.{true};
 ghost use mathlib.Core.List.{[], _∷_, _++_};
 ghost use Prim.Native.Nat.{_+_, _-_, _*_, _≤_, _<_, _^_, min};
 ghost use lib.Dec.{ltb};
 ghost use lib.ListN.{length, set, take, drop};
 ghost use Rattle.records.specs.Select.{only};
-ghost use Rattle.records.specs.Stages.{every};
 ghost use Rattle.item.specs.Items.{fields, items, end};
 ghost use Rattle.cut.specs.Cuts.{front, back};
-ghost use Rattle.segment.specs.Segments.{itemAt, Added, leading, endsBy, startsBy, bounded, Runs, Good, Around, Cutting, Inserted, Joining};
-ghost use Rattle.segment.specs.Raw.{Within, Behind, Before};
+ghost use Rattle.segment.specs.Segments.{itemAt, Added, leading, endsBy, startsBy, Runs, Cutting, Inserted};
 
 // Records from..to of a list make way for the first `count` records of a buffer.
 pub struct Segment {
@@ -26,7 +23,7 @@ pub struct Segment {
 // ---- a buffer of records
 
 // Record n of a list.
-fn record_at(list: &[u8], n: usize) -> Item
+pub fn record_at(list: &[u8], n: usize) -> Item
     requires { ⌜ n < length (items (now list)) ⌝ }
     ensures { λ r. ⌜ fields r ≡ itemAt (now (list .entry)) n ⌝ }
 {
@@ -34,7 +31,7 @@ fn record_at(list: &[u8], n: usize) -> Item
 }
 
 // An item as record n of a buffer.
-fn put_record(seg: &mut [u8], n: usize, item: Item)
+pub fn put_record(seg: &mut [u8], n: usize, item: Item)
     requires { ⌜ n < length (items (now seg)) ⌝ }
     ensures { λ r. ⌜ items (now (seg .exit)) ≡ set (items (now (seg .entry))) n (fields item) ⌝ }
 {
@@ -117,7 +114,7 @@ fn ending_by(list: &[u8], lo: u64) -> usize
 }
 
 // The number of the first of n records, from `start` on, that starts past a key; n where there is none.
-fn starting_by(list: &[u8], start: usize, n: usize, key: u64) -> usize
+pub fn starting_by(list: &[u8], start: usize, n: usize, key: u64) -> usize
     requires { ⌜ (start ≤ n) × (n ≤ length (items (now list))) ⌝ }
     ensures { λ r. ⌜ r ≡ start + leading (startsBy key) (drop start (take n (items (now (list .entry))))) ⌝ }
 {
@@ -169,17 +166,6 @@ fn slide(seg: &mut [u8], k: usize, n: usize, item: Item)
     put_record(seg, n, carried);
 }
 
-// Record k of n taken away; those behind it move down.
-fn remove(seg: &mut [u8], k: usize, n: usize)
-    requires { ⌜ (k < n) × (n ≤ length (items (now seg))) ⌝ }
-    ensures { λ r. ⌜ take (n - 1) (items (now (seg .exit))) ≡ take k (items (now (seg .entry))) ++ drop (k + 1) (take n (items (now (seg .entry)))) ⌝ }
-{
-    for i in k..n - 1 {
-        let next = record_at(seg, i + 1);
-        put_record(seg, i, next);
-    }
-}
-
 // An item put among a segment's, at its key.
 pub fn insert_item(seg: &mut [u8], s: Segment, item: Item) -> Segment
     requires { ⌜ (s .count + 1) * 70 ≤ length (now seg) ⌝ }
@@ -192,106 +178,4 @@ pub fn insert_item(seg: &mut [u8], s: Segment, item: Item) -> Segment
         to: s.to,
         count: s.count + 1,
     }
-}
-
-// ---- joining around a sector
-
-// Record k of n joined with the next one, if they are joinable.
-fn join_within(seg: &mut [u8], k: usize, n: usize, generation: u64) -> usize
-    requires { ⌜ (k + 1 < n) × (n ≤ length (items (now seg))) × (every bounded (take n (items (now seg))) ≡ true) ⌝ }
-    ensures { λ r. ⌜ Within generation k n (now (seg .entry)) r (now (seg .exit)) ⌝ }
-{
-    let front = record_at(seg, k);
-    let behind = record_at(seg, k + 1);
-    if !cut::is_joinable(front, behind) {
-        return n;
-    }
-    put_record(seg, k, front.joined(behind, generation));
-    remove(seg, k + 1, n);
-    n - 1
-}
-
-// The last item of a segment joined with the list's record behind it.
-fn join_end(list: &[u8], seg: &mut [u8], s: Segment, generation: u64) -> Segment
-    requires { ⌜ Good (now list) s (now seg) × (0 < s .count) ⌝ }
-    ensures { λ r. ⌜ Behind generation (now (list .entry)) s (now (seg .entry)) (s .count - 1) r (now (seg .exit)) ⌝ }
-{
-    if s.to == list.len() / 70 {
-        return s;
-    }
-    let front = record_at(seg, s.count - 1);
-    let behind = record_at(list, s.to);
-    if !cut::is_joinable(front, behind) {
-        return s;
-    }
-    put_record(seg, s.count - 1, front.joined(behind, generation));
-    Segment {
-        from: s.from,
-        to: s.to + 1,
-        count: s.count,
-    }
-}
-
-// Record k of a segment joined with what is behind it.
-fn join_behind(list: &[u8], seg: &mut [u8], s: Segment, k: usize, generation: u64) -> Segment
-    requires { ⌜ Good (now list) s (now seg) × (k < s .count) ⌝ }
-    ensures { λ r. ⌜ Behind generation (now (list .entry)) s (now (seg .entry)) k r (now (seg .exit)) ⌝ }
-{
-    if k + 1 == s.count {
-        return join_end(list, seg, s, generation);
-    }
-    let n = join_within(seg, k, s.count, generation);
-    Segment {
-        from: s.from,
-        to: s.to,
-        count: n,
-    }
-}
-
-// The first item of a segment joined with the list's record before it.
-fn join_start(list: &[u8], seg: &mut [u8], s: Segment, generation: u64) -> Segment
-    requires { ⌜ Good (now list) s (now seg) × (0 < s .count) ⌝ }
-    ensures { λ r. ⌜ Before generation (now (list .entry)) s (now (seg .entry)) 0 r (now (seg .exit)) ⌝ }
-{
-    if s.from == 0 {
-        return s;
-    }
-    let front = record_at(list, s.from - 1);
-    let behind = record_at(seg, 0);
-    if !cut::is_joinable(front, behind) {
-        return s;
-    }
-    put_record(seg, 0, front.joined(behind, generation));
-    Segment {
-        from: s.from - 1,
-        to: s.to,
-        count: s.count,
-    }
-}
-
-// Record k of a segment joined with what is before it.
-fn join_before(list: &[u8], seg: &mut [u8], s: Segment, k: usize, generation: u64) -> Segment
-    requires { ⌜ Good (now list) s (now seg) × (k < s .count) ⌝ }
-    ensures { λ r. ⌜ Before generation (now (list .entry)) s (now (seg .entry)) k r (now (seg .exit)) ⌝ }
-{
-    if k == 0 {
-        return join_start(list, seg, s, generation);
-    }
-    let n = join_within(seg, k - 1, s.count, generation);
-    Segment {
-        from: s.from,
-        to: s.to,
-        count: n,
-    }
-}
-
-// Around a sector written in place: the last item at or before it joined with the one behind it, and then with the one
-// before it.
-pub fn join_around(list: &[u8], seg: &mut [u8], s: Segment, generation: u64, sector: u64) -> Segment
-    requires { ⌜ Good (now list) s (now seg) × Around sector (now list) s × (0 < s .count) × (itemAt (now seg) 0 .key ≤ sector) ⌝ }
-    ensures { λ r. ⌜ Joining generation sector (now (list .entry)) s (now (seg .entry)) r (now (seg .exit)) ⌝ }
-{
-    let k = starting_by(seg, 0, s.count, sector) - 1;
-    let t = join_behind(list, seg, s, k, generation);
-    join_before(list, seg, t, k, generation)
 }

@@ -10,7 +10,6 @@ use Rattle.records.specs.Stages.{unless, every, neighbours}
 use Rattle.table.proofs.Laws.{rows-length}
 use Rattle.table.specs.Rows.{rowOf, rows, tableSized, tableKept, findFrom, find, oneMoreReference}
 use Rattle.table.specs.Windows.{windowInside}
-use Rattle.table.specs.declared.Row.{Row}
 use Rattle.table.specs.declared.Found.{Found}
 use Rattle.table.specs.declared.Found.the-variants.{At, Missing}
 

@@ -1,20 +1,18 @@
 -- What the worked examples P1 to P12 of document 01 ("Cards") start from: the volume, file, item and extent of its
 -- section "extplan".
-use mathlib.Core.Bool.{Bool, true, false}
+use mathlib.Core.Bool.{true, false}
 use mathlib.Core.List.{List, [], _∷_}
 use Prim.Native.Nat.{ℕ}
 use Rattle.item.specs.Items.{Fields}
 use Rattle.table.specs.declared.Row.{Row}
 use Rattle.request.specs.declared.Volume.{Volume}
 use Rattle.request.specs.declared.File.{File}
-use Rattle.request.specs.declared.Range.{Range}
 use Rattle.request.specs.Answers.{Outcome}
 use Rattle.plan.specs.Plans.{Plan}
 use Rattle.plan.specs.Outputs.{Rooms}
-use Rattle.punch.specs.Punch.{punch}
-use Rattle.fallocate.specs.Fallocate.{fallocate}
-use Rattle.clone.specs.declared.Span.{Span}
-use Rattle.clone.specs.Clone.{clone}
+use Rattle.punch_plan.specs.Punch.{punch}
+use Rattle.fallocate_plan.specs.Fallocate.{fallocate}
+use Rattle.clone_plan.specs.Clone.{clone}
 
 -- (volume (sector 4096) (total 1073741824) (generation 7) (snapshot 0))
 abbrev pub volume : Volume

@@ -3,7 +3,7 @@
 use mathlib.Core.Bool.{Bool, true, false}
 use mathlib.Core.List.{List, [], _∷_}
 use Prim.Native.Nat.{ℕ, _-_, _^_}
-use Rattle.item.specs.Items.{Fields, reference}
+use Rattle.item.specs.Items.{reference}
 use Rattle.request.specs.Answers.{Outcome, plan, nothing, refused}
 use Rattle.cut.specs.Refs.{Ref}
 use Rattle.cut.specs.Edits.{Edit, put, delete}

@@ -1,6 +1,7 @@
 // oracle text: extplan's input to its output, as the Rust plans it. With our side linked (cfg ours): oracle fuzz SEED COUNT
-// compares the two on random well-kept lists, oracle bytes SEED COUNT on broken bytes; a last word `fallocate` makes the
-// requests fallocates, else they are punches. oracle large SEED COUNT makes both, on lists about 65,536 records long.
+// compares the two on random well-kept lists, oracle bytes SEED COUNT on broken bytes; a last word `fallocate` or `clone`
+// says what the requests are, else they are punches. oracle large SEED COUNT makes punches and fallocates, or clones, on
+// lists about 65,536 records long.
 mod stubs;
 pub use stubs::*;
 #[path = "../sources/clone.rs"]
@@ -21,6 +22,8 @@ mod text;
 mod read;
 #[cfg_attr(not(ours), allow(dead_code))]
 mod gen;
+#[cfg_attr(not(ours), allow(dead_code))]
+mod clones;
 #[cfg(ours)]
 mod ours;
 #[cfg(ours)]
@@ -30,15 +33,20 @@ mod broken;
 fn main() {
     let a: Vec<String> = std::env::args().collect();
     #[cfg(ours)]
-    let make = if a.get(4).is_some_and(|w| w == "fallocate") { gen::fallocate } else { gen::punch };
+    let (make, large) = match a.get(4).map(|s| s.as_str()) {
+        None => (gen::punch as fn(&mut gen::Rng) -> oracle::Request, gen::large as fn(&mut gen::Rng) -> oracle::Request),
+        Some("fallocate") => (gen::fallocate as _, gen::large as _),
+        Some("clone") => (clones::clone as _, clones::large as _),
+        Some(w) => panic!("no requests of {w}"),
+    };
     match a.get(1).map(|s| s.as_str()) {
         #[cfg(ours)]
         Some("fuzz") => fuzz::fuzz(make, a[2].parse().unwrap(), a[3].parse().unwrap()),
         #[cfg(ours)]
-        Some("large") => fuzz::fuzz(gen::large, a[2].parse().unwrap(), a[3].parse().unwrap()),
+        Some("large") => fuzz::fuzz(large, a[2].parse().unwrap(), a[3].parse().unwrap()),
         #[cfg(ours)]
         Some("bytes") => broken::fuzz(make, a[2].parse().unwrap(), a[3].parse().unwrap()),
         Some("text") => read::run(),
-        _ => eprintln!("oracle fuzz|bytes SEED COUNT [fallocate] | oracle large SEED COUNT | oracle text <INPUT (requests parted by a line ---)"),
+        _ => eprintln!("oracle fuzz|bytes SEED COUNT [fallocate|clone] | oracle large SEED COUNT [clone] | oracle text <INPUT (requests parted by a line ---)"),
     }
 }

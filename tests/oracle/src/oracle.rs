@@ -82,9 +82,21 @@ fn plan_of(r: &Request, c: Captured) -> Outcome {
     Outcome::Plan(p)
 }
 
-/// The outcome, and the lengths asked of the allocator. A list over-long is 1, which is not the Rust's.
+/// The outcome, and the lengths asked of the allocator. Not the Rust's: 1 for a list over-long, 2 for a second list of the
+/// first one's number, and the clone's 6 in bytes, behind 19 to 22.
 pub fn run(r: &Request) -> (Outcome, Vec<u64>) {
-    if r.facts.files[0].items.len() > 65536 { return (Outcome::Refused(1), Vec::new()); }
+    let files = &r.facts.files;
+    if files.iter().any(|f| f.items.len() > 65536) { return (Outcome::Refused(1), Vec::new()); }
+    if files.len() == 2 && files[0].ino == files[1].ino { return (Outcome::Refused(2), Vec::new()); }
+    let (theirs, wanted) = rust(r);
+    if let Op::Clone(from, to, n) = r.op {
+        let len = if n == 0 { files.last().unwrap().size.saturating_sub(from) } else { n };
+        let early = matches!(theirs, Outcome::Nothing | Outcome::Refused(19..=22));
+        if !early && to as u128 + len as u128 > (1 << 63) - 1 { return (Outcome::Refused(6), wanted); }
+    }
+    (theirs, wanted)
+}
+fn rust(r: &Request) -> (Outcome, Vec<u64>) {
     let got = std::panic::catch_unwind(|| {
         let mut fs = Filesystem {
             writable: Some(()), subvolume_writes: None, fs_tree_root: 0, facts: r.facts.clone(), captured: Default::default(),

@@ -1,4 +1,4 @@
-// Our side: the proved punch and fallocate, linked from libffi.a (crate `ffi`: numbers in, an answer and nine numbers out).
+// Our side: the proved operations, linked from libffi.a (crate `ffi`: numbers and slices in, a byte and nine numbers out).
 use crate::oracle::{Op, Outcome, Plan, Request};
 extern "C" {
     fn zag_punch(
@@ -15,46 +15,72 @@ extern "C" {
         releases: *mut u64, releases_n: u64, adds: *mut u64, adds_n: u64, writes: *mut u64, writes_n: u64,
         answer: *mut u64, answer_n: u64,
     ) -> u8;
+    fn zag_clone(
+        sector: u64, total: u64, generation: u64, snapshot: u64, number: u64, size: u64, source_number: u64, source_size: u64, own: bool, from: u64, to: u64, length: u64,
+        list: *const u8, list_n: u64, shared: *const u8, shared_n: u64, source: *const u8, source_n: u64, table: *const u64, table_n: u64,
+        edits: *mut u8, edits_n: u64, shares: *mut u64, shares_n: u64, unrefs: *mut u64, unrefs_n: u64,
+        releases: *mut u64, releases_n: u64,
+        answer: *mut u64, answer_n: u64,
+    ) -> u8;
 }
 pub fn list_bytes(ino: u64, items: &[(u64, Vec<u8>)]) -> Vec<u8> {
     let mut v = Vec::with_capacity(items.len() * 70);
     for (k, d) in items { v.extend(ino.to_le_bytes()); v.push(108); v.extend(k.to_le_bytes()); v.extend(d); }
     v
 }
+/// What is lent, but for outputs.
+#[derive(Clone)]
+pub struct Lent {
+    pub sector: u64, pub total: u64, pub generation: u64, pub snapshot: u64, pub ino: u64, pub size: u64, pub nodatacow: bool, pub op: Op,
+    pub list: Vec<u8>, pub shared: Vec<u8>, pub table: Vec<u64>, pub places: Vec<u64>,
+    /// a clone's source; with `own` it must not be looked at
+    pub own: bool, pub source_ino: u64, pub source_size: u64, pub source: Vec<u8>,
+}
+impl Lent {
+    pub fn new(r: &Request) -> Lent {
+        let f = &r.facts.files[0];
+        let own = r.facts.files.len() == 1;
+        let (source_ino, source_size, source) = match r.facts.files.get(1) {
+            Some(s) => (s.ino, s.size, list_bytes(s.ino, &s.items)),
+            None => (f.ino ^ (r.total & 1), u64::MAX, vec![0xee; (r.total % 200) as usize]),
+        };
+        Lent {
+            sector: r.sector, total: r.total, generation: r.facts.generation, snapshot: r.facts.snapshot, ino: f.ino, size: f.size, nodatacow: f.nodatacow, op: r.op,
+            list: list_bytes(f.ino, &f.items), shared: f.shared.clone(), table: r.facts.rows.iter().flatten().copied().collect(), places: r.facts.places.clone().unwrap_or_default(),
+            own, source_ino, source_size, source,
+        }
+    }
+}
 const E: u8 = 0xa5;
 const W: u64 = 0xa5a5_5a5a_1234_4321;
 /// The outcome with outputs of these lengths (edits in bytes, the others in numbers), and what is broken about the outputs.
-pub fn run(r: &Request, rooms: [usize; 6]) -> (Outcome, Option<String>) {
-    let f = &r.facts.files[0];
-    let list = list_bytes(f.ino, &f.items);
-    let table: Vec<u64> = r.facts.rows.iter().flatten().copied().collect();
-    let places = r.facts.places.clone().unwrap_or_default();
-    raw(r.sector, r.total, r.facts.generation, r.facts.snapshot, f.ino, f.size, f.nodatacow, r.op, &list, &f.shared, &table, &places, rooms)
-}
-#[allow(clippy::too_many_arguments)]
-pub fn raw(
-    sector: u64, total: u64, generation: u64, snapshot: u64, ino: u64, size: u64, nodatacow: bool, op: Op,
-    list: &[u8], shared: &[u8], table: &[u64], places: &[u64], rooms: [usize; 6],
-) -> (Outcome, Option<String>) {
+pub fn run(l: &Lent, rooms: [usize; 6]) -> (Outcome, Option<String>) { with_answer(l, rooms, 12) }
+/// The same with so many numbers of `answer`.
+pub fn with_answer(l: &Lent, rooms: [usize; 6], numbers: usize) -> (Outcome, Option<String>) {
     let mut e = vec![E; rooms[0]];
     let mut o: Vec<Vec<u64>> = (1..6).map(|i| vec![W; rooms[i]]).collect();
-    let mut a = vec![W; 9];
+    let mut a = vec![W; numbers];
     let code = unsafe {
         let p: Vec<*mut u64> = o.iter_mut().map(|v| v.as_mut_ptr()).collect();
         macro_rules! call {
             ($f:ident, $offset:expr, $length:expr $(, $keep:expr)?) => {
                 $f(
-                    sector, total, generation, snapshot, ino, size, nodatacow, $offset, $length $(, $keep)?,
-                    list.as_ptr(), list.len() as u64, shared.as_ptr(), shared.len() as u64, table.as_ptr(), table.len() as u64, places.as_ptr(), places.len() as u64,
+                    l.sector, l.total, l.generation, l.snapshot, l.ino, l.size, l.nodatacow, $offset, $length $(, $keep)?,
+                    l.list.as_ptr(), l.list.len() as u64, l.shared.as_ptr(), l.shared.len() as u64, l.table.as_ptr(), l.table.len() as u64, l.places.as_ptr(), l.places.len() as u64,
                     e.as_mut_ptr(), rooms[0] as u64, p[0], rooms[1] as u64, p[1], rooms[2] as u64, p[2], rooms[3] as u64, p[3], rooms[4] as u64, p[4], rooms[5] as u64,
-                    a.as_mut_ptr(), 9,
+                    a.as_mut_ptr(), numbers as u64,
                 )
             };
         }
-        match op {
+        match l.op {
             Op::Punch(o, n) => call!(zag_punch, o, n),
             Op::Fallocate(o, n, keep) => call!(zag_fallocate, o, n, keep),
-            Op::Clone(..) => panic!("no clone yet"),
+            Op::Clone(from, to, n) => zag_clone(
+                l.sector, l.total, l.generation, l.snapshot, l.ino, l.size, l.source_ino, l.source_size, l.own, from, to, n,
+                l.list.as_ptr(), l.list.len() as u64, l.shared.as_ptr(), l.shared.len() as u64, l.source.as_ptr(), l.source.len() as u64, l.table.as_ptr(), l.table.len() as u64,
+                e.as_mut_ptr(), rooms[0] as u64, p[0], rooms[1] as u64, p[1], rooms[2] as u64, p[2], rooms[3] as u64,
+                a.as_mut_ptr(), numbers as u64,
+            ),
         }
     };
     let untouched = |from: [usize; 6]| -> Option<String> {
@@ -66,6 +92,7 @@ pub fn raw(
         let bad = if a.iter().any(|x| *x != W) { Some("numbers of no plan".into()) } else { untouched([0; 6]) };
         return (if code == 100 { Outcome::Nothing } else { Outcome::Refused(code) }, bad);
     }
+    if numbers < 9 { return (Outcome::Panicked("a plan without its numbers".into()), None); }
     let width = [71, 2, 2, 2, 3, 4];
     let mut used = [0; 6];
     for i in 0..6 {
@@ -74,8 +101,10 @@ pub fn raw(
     }
     let mut p = Plan { size: a[6], bytes: a[7], prealloc: a[8] == 1, ..Default::default() };
     let mut bad = untouched(used);
+    if a[8] > 1 { bad = Some("a mark over 1".into()); }
+    if a[9..].iter().any(|x| *x != W) { bad = Some("numbers past the ninth changed".into()); }
     for c in e[..used[0]].chunks(71) {
-        if c[1..9] != ino.to_le_bytes() || c[9] != 108 { bad = Some("an edit's number or type".into()); }
+        if c[1..9] != l.ino.to_le_bytes() || c[9] != 108 { bad = Some("an edit's number or type".into()); }
         let key = u64::from_le_bytes(c[10..18].try_into().unwrap());
         match c[0] {
             1 => p.edits.push((key, Some(c[18..].to_vec()))),

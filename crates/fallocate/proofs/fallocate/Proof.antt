@@ -1,6 +1,6 @@
 use denote.Ref.{now}
 use Rattle.fallocate.proofs.Operating.{fits, asked-now, fallocate-refused, fallocate-changed}
-use Rattle.ranges.proofs.Finish.{met-refused}
+use Rattle.laying.proofs.Outputs.{met-refused}
 use native.Mathlib.Omega.{arith}
 use borrow.Author.Needs.{needs}
 use Rattle.fallocate.proofs.fallocate.Statement.{statement}

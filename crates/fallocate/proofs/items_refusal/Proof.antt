@@ -5,7 +5,7 @@ use Rattle.records.proofs.Loops.{rest, stage-turn, stage-stop, stage-done}
 use Rattle.item.specs.Items.{decode, items}
 use Rattle.item.proofs.Laws.{item-decode}
 use Rattle.punch.proofs.Sectors.{fitting}
-use Rattle.fallocate.specs.Fallocate.{itemRefusal}
+use Rattle.fallocate_plan.specs.Fallocate.{itemRefusal}
 use Rattle.fallocate.specs.Raw.{itemBetween}
 use Rattle.fallocate.proofs.Asking.{items-start}
 use denote.Ref.{now}

@@ -2,7 +2,6 @@ use mathlib.Core.Path.{_≡_}
 use native.Mathlib.Omega.{arith}
 use mir.Syntax.{w8}
 use mir.Val.{Fits}
-use Prim.Native.Nat.{ℕ}
 use lib.ListN.{length, getD}
 use Rattle.endian.specs.Le.{Bytes}
 use Rattle.item.proofs.Runs.{put-item}

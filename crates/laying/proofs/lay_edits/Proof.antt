@@ -6,9 +6,9 @@ use Rattle.laying.proofs.lay_edits.Statement.{statement}
 use Rattle.laying.proofs.lay_edits.Tie as tie
 use Rattle.laying.proofs.lay_edits.Reads as reads
 use Rattle.laying.proofs.lay_edits.Lts as lts
-use Rattle.changing.proofs.bytes_after.Reads as bytes-after-reads
+use Rattle.changed_lines.proofs.bytes_after.Reads as bytes-after-reads
 use Rattle.changing.proofs.changed_segment.Reads as changed-segment-reads
-use Rattle.changing.proofs.put_changes.Reads as put-changes-reads
+use Rattle.changed_lines.proofs.put_changes.Reads as put-changes-reads
 
 -- src/lib.rt:83:63
 slice-aggregate-changed-segment : tie.Need-slice-aggregate-changed-segment

@@ -5,7 +5,7 @@ use Rattle.laying.proofs.lay_plan.Statement.{statement}
 use Rattle.laying.proofs.lay_plan.Tie as tie
 use Rattle.laying.proofs.lay_plan.Reads as reads
 use Rattle.laying.proofs.lay_plan.Lts as lts
-use Rattle.changing.proofs.put_writes.Reads as put-writes-reads
+use Rattle.changed_lines.proofs.put_writes.Reads as put-writes-reads
 use Rattle.laying.proofs.lay_edits.Reads as lay-edits-reads
 use Rattle.laying.proofs.lay_refs.Reads as lay-refs-reads
 

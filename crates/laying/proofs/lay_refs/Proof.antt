@@ -6,10 +6,10 @@ use Rattle.laying.proofs.lay_refs.Statement.{statement}
 use Rattle.laying.proofs.lay_refs.Tie as tie
 use Rattle.laying.proofs.lay_refs.Reads as reads
 use Rattle.laying.proofs.lay_refs.Lts as lts
-use Rattle.changing.proofs.cut_of.Reads as cut-of-reads
+use Rattle.changed_lines.proofs.cut_of.Reads as cut-of-reads
 use Rattle.changing.proofs.joined_segment.Reads as joined-segment-reads
-use Rattle.changing.proofs.put_shares.Reads as put-shares-reads
-use Rattle.changing.proofs.put_unrefs.Reads as put-unrefs-reads
+use Rattle.changed_lines.proofs.put_shares.Reads as put-shares-reads
+use Rattle.changed_lines.proofs.put_unrefs.Reads as put-unrefs-reads
 use Rattle.drops.proofs.put_drops.Reads as put-drops-reads
 
 -- src/lib.rt:56:9

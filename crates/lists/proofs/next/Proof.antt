@@ -1,7 +1,7 @@
-use mathlib.Core.Path.{_≡_, _∙_, sym, ap}
-use mathlib.Core.Bool.{Bool, true}
-use Prim.Native.Nat.{ℕ, _+_, _≤_, _^_}
-use Rattle.item.specs.Items.{fields, ranged, end}
+use mathlib.Core.Path.{_∙_, sym, ap}
+use mathlib.Core.Bool.{true}
+use Prim.Native.Nat.{ℕ, _+_}
+use Rattle.item.specs.Items.{fields, end}
 use Rattle.lists.specs.declared.Last.{Last}
 use Rattle.lists.proofs.Order.{turn-ends, next-ranged, next-other}
 use native.Mathlib.Omega.{arith}

@@ -1,4 +1,4 @@
-use mathlib.Core.Path.{_≡_, _∙_, ap, refl}
+use mathlib.Core.Path.{_≡_, _∙_, refl}
 use Prim.Native.Nat.{ℕ, _-_, _≤_}
 use denote.Ref.{now}
 use lib.Dec.{leb}

@@ -1,4 +1,4 @@
-use mathlib.Core.Path.{_≡_, _∙_, ap, ap₂, sym}
+use mathlib.Core.Path.{_∙_, ap, ap₂, sym}
 use Prim.Native.Nat.{ℕ, _/_}
 use denote.Ref.{now}
 use mathlib.Core.Bool.{_&&_}

@@ -1,51 +1,18 @@
-use mathlib.Core.Path.{_∙_, ap, ap₂}
-use mathlib.Core.Bool.{Bool, _&&_, _||_, not}
-use Prim.Native.Nat.{ℕ, _%_}
-use lib.Dec.{eqb}
+use mathlib.Core.Path.{_∙_, ap}
+use mathlib.Core.Bool.{Bool}
 use Rattle.records.specs.Stages.{unless}
 use borrow.Author.Needs.{needs}
 use Rattle.lists.proofs.whole_refusal.Statement.{statement}
 use Rattle.lists.proofs.whole_refusal.Tie as tie
 
-length-requires : tie.Need-length-requires
-length-requires c κs = search needs
-
-is-ranged-requires : tie.Need-is-ranged-requires
-is-ranged-requires c κs = search needs
-
-rem-both : tie.Need-rem-both
-rem-both c = search needs
-
-rem-both-2 : tie.Need-rem-both-2
-rem-both-2 c = search needs
-
-both-requires : tie.Need-both-requires
-both-requires c κs = search needs
-
-either-requires : tie.Need-either-requires
-either-requires c κs = search needs
+is-whole-requires : tie.Need-is-whole-requires
+is-whole-requires c κs = search needs
 
 unless-requires : tie.Need-unless-requires
 unless-requires c κs = search needs
 
 returns : tie.Need-returns
-returns c =
-    let a = c .before .before .before .before .before .before .args in
-    c .unless .ensures
-    ∙ ap (λ (b : Bool). unless b 4)
-    (c .before .either .ensures
-    ∙ ap₂ (λ (x y : Bool). not x || y) (c .before .before .before .before .is-ranged .ensures)
-    (c .before .before .both .ensures ∙ ap (λ (l : ℕ). eqb (a .item .key % a .sector) 0 && eqb (l % a .sector) 0) (c .before .before .before .before .before .length .ensures)))
+returns c = c .unless .ensures ∙ ap (λ (b : Bool). unless b 4) (c .before .is-whole .ensures)
 
 pub whole-refusal-spec : {M : Type 1} → statement M
-whole-refusal-spec =
-    tie.close
-    (tie.spec
-    length-requires
-    is-ranged-requires
-    rem-both
-    rem-both-2
-    both-requires
-    either-requires
-    unless-requires
-    returns)
+whole-refusal-spec = tie.close (tie.spec is-whole-requires unless-requires returns)

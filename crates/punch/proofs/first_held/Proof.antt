@@ -1,7 +1,7 @@
 use denote.Ref.{now}
 use Rattle.punch.proofs.Starting.{start-turn, start-first}
 use Rattle.punch.specs.Raw.{offsetIn}
-use Rattle.punch.specs.Punch.{firstHeld}
+use Rattle.punch_plan.specs.Punch.{firstHeld}
 use Rattle.item.proofs.Laws.{item-decode, rest-items}
 use Rattle.item.specs.Items.{decode}
 use Rattle.records.proofs.Loops.{rest}

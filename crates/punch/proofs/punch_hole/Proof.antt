@@ -1,6 +1,6 @@
 use denote.Ref.{now}
-use Rattle.punch.proofs.Operating.{passed, shares-many, asked-now, punch-refused, punch-nothing, punch-changed, met-nothing}
-use Rattle.ranges.proofs.Finish.{met-refused}
+use Rattle.punch.proofs.Operating.{passed, shares-many, asked-now, punch-refused, punch-nothing, punch-changed}
+use Rattle.laying.proofs.Outputs.{met-refused, met-nothing}
 use Rattle.punch.specs.Raw.{planIn}
 use Rattle.punch.specs.declared.PunchPlan.{PunchPlan}
 use borrow.Author.Tests.{ltb-true}

@@ -1,6 +1,6 @@
 use denote.Ref.{now}
 use Rattle.drafts.proofs.Drafting.{started, refused-told, planned-told}
-use Rattle.ranges.proofs.Finish.{met-refused}
+use Rattle.laying.proofs.Outputs.{met-refused}
 use Rattle.drafts.specs.Raw.{draftSaid}
 use Rattle.item.specs.Items.{items}
 use native.Mathlib.Omega.{arith}

@@ -1,6 +1,5 @@
 use mathlib.Core.Path.{_∙_, ap}
 use mathlib.Core.Bool.{Bool, _||_}
-use Prim.Native.Nat.{ℕ}
 use lib.Dec.{eqb}
 use borrow.Author.Needs.{needs}
 use Rattle.request.proofs.sector_sound.Statement.{statement}

@@ -9,11 +9,10 @@ use Rattle.cut.specs.Cuts.{split}
 use Rattle.item.proofs.Laws.{item-decode, rest-items, items-length}
 use Rattle.records.proofs.Loops.{rest}
 use Rattle.records.specs.Select.{keep}
-use lib.ListN.{length}
 use denote.Ref.{now}
 use Prim.Native.Nat.{_+_, _-_, _≤_}
 use mathlib.Core.List.{[], _∷_, map, flatMap}
-use mathlib.Core.Path.{_≡_, refl}
+use mathlib.Core.Path.{refl}
 use native.Mathlib.Omega.{arith}
 use Rattle.splits.proofs.put_splits.Statement.{statement}
 use Rattle.splits.proofs.put_splits.Tie as tie

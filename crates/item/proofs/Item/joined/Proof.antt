@@ -1,8 +1,8 @@
-use mathlib.Core.Path.{_≡_, _∙_, ap₂}
-use Prim.Native.Nat.{ℕ, _+_, _<_, _^_}
+use mathlib.Core.Path.{_≡_, ap₂}
+use Prim.Native.Nat.{ℕ, _+_}
 use native.Mathlib.Omega.{arith}
 use lib.ListN.{length}
-use Rattle.item.specs.Items.{Fields, fields, changed}
+use Rattle.item.specs.Items.{fields}
 use Rattle.item.proofs.Laws.{reads-self, with-generation, with-length}
 use borrow.Author.Needs.{needs}
 use Rattle.item.proofs.Item.joined.Statement.{statement}

@@ -1,0 +1,1 @@
+// Definitions and laws of applying a plan; no code (crate apply).

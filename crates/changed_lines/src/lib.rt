@@ -1,0 +1,168 @@
+// `change_range` in code: the lines of a change for each output, read off the list and the segment beside it.
+use change::RangeChange;
+use change::Rewrite;
+use changing::Parts;
+use changing::back_new;
+use changing::front_new;
+use drops::Cut;
+use segment::Segment;
+ghost use mathlib.Core.Bool.{true};
+ghost use mathlib.Core.List.{map};
+ghost use mathlib.Core.Path.{_≡_};
+ghost use Prim.Native.Nat.{_+_, _-_, _*_, _<_, _≤_, _^_};
+ghost use lib.ListN.{length, take, drop};
+ghost use Rattle.records.specs.Select.{only};
+ghost use Rattle.item.specs.Items.{items};
+ghost use Rattle.table.specs.Rows.{rows, tableKept};
+ghost use Rattle.records.specs.Stages.{pairs};
+ghost use Rattle.lists.specs.Lists.{rises};
+ghost use Rattle.cut.specs.Pieces.{made, itemsOf, insertAll, countedBytes};
+ghost use Rattle.edits.specs.Pieced.{pieceItems};
+ghost use Rattle.cut.specs.Edits.{edits};
+ghost use Rattle.segment.specs.Segments.{segmentOf, Good};
+ghost use Rattle.plan.specs.Outputs.{editBytes, refNumbers, writeNumbers};
+ghost use Rattle.lines.specs.Lines.{Laid};
+ghost use Rattle.change.specs.Rewrites.{writeInPlace};
+ghost use Rattle.rewrites.specs.Raw.{heldIn};
+ghost use Rattle.changing.specs.Sides.{sides, writeAt, Writable, writesOf, middle, cutOf, comparedOf, sharesOf, unrefsOf, bytesOf};
+
+// ---- writes
+
+// A sector's write to its new extent as line n, if it takes one.
+fn put_new_write(new: bool, r: Rewrite, place: u64, out: &mut [u64], n: usize) -> usize
+    requires { ⌜ n + 1 < 2 ^ 64 ⌝ }
+    ensures { λ m. ⌜ Laid writeNumbers 4 n (only new (writeAt r place)) (now (out .entry)) m (now (out .exit)) ⌝ }
+{
+    if !new {
+        return n;
+    }
+    lines::put_write(out, n, r.sector, place, r.first, r.end)
+}
+
+// The writes in place of a plan.
+fn put_writes_in_place(c: RangeChange, p: Parts, out: &mut [u64]) -> usize
+    requires { ⌜ Writable (c .front) (p .front) × Writable (c .back) (p .back) ⌝ }
+    ensures { λ m. ⌜ Laid writeNumbers 4 0 (sides (p .front .found) (p .back .found) (writeInPlace (c .front) (heldIn (p .front))) (writeInPlace (c .back) (heldIn (p .back)))) (now (out .entry)) m (now (out .exit)) ⌝ }
+{
+    let n = rewrites::put_in_place(c.front, p.front, out, 0);
+    rewrites::put_in_place(c.back, p.back, out, n)
+}
+
+// The writes of a plan: those in place first.
+pub fn put_writes(c: RangeChange, p: Parts, x: u64, y: u64, out: &mut [u64]) -> usize
+    requires { ⌜ Writable (c .front) (p .front) × Writable (c .back) (p .back) ⌝ }
+    ensures { λ m. ⌜ Laid writeNumbers 4 0 (writesOf c p x y) (now (out .entry)) m (now (out .exit)) ⌝ }
+{
+    let n = put_writes_in_place(c, p, out);
+    let m = put_new_write(front_new(c, p), c.front, x, out, n);
+    put_new_write(back_new(c, p), c.back, y, out, m)
+}
+
+// ---- shares, unrefs and releases
+
+// What is cut, and the extents written in place.
+pub fn cut_of(c: RangeChange, p: Parts) -> Cut
+    ensures { λ r. ⌜ r ≡ cutOf c p ⌝ }
+{
+    Cut {
+        lo: c.lo,
+        hi: c.hi,
+        one: rewrites::extent_in_place(p.front),
+        two: rewrites::extent_in_place(p.back),
+    }
+}
+
+// The references of the extents written in place that there are more of after the change than before.
+pub fn put_more(k: Cut, list: &[u8], seg: &[u8], s: Segment, out: &mut [u64], n: usize) -> usize
+    requires { ⌜ Good (now list) s (now seg) × (n + s .count < 2 ^ 64) ⌝ }
+    ensures { λ m. ⌜ Laid refNumbers 2 n (comparedOf k (middle (items (now (list .entry))) s) (segmentOf s (now (seg .entry)))) (now (out .entry)) m (now (out .exit)) ⌝ }
+{
+    let from = s.from * 70;
+    let to = s.to * 70;
+    let end = s.count * 70;
+    compared::put_compared(&seg[0..end], &list[from..to], k.one, k.two, out, n)
+}
+
+// Those that there are fewer of.
+fn put_fewer(k: Cut, list: &[u8], seg: &[u8], s: Segment, out: &mut [u64], n: usize) -> usize
+    requires { ⌜ Good (now list) s (now seg) × (n + length (items (now list)) < 2 ^ 64) ⌝ }
+    ensures { λ m. ⌜ Laid refNumbers 2 n (comparedOf k (segmentOf s (now (seg .entry))) (middle (items (now (list .entry))) s)) (now (out .entry)) m (now (out .exit)) ⌝ }
+{
+    let from = s.from * 70;
+    let to = s.to * 70;
+    let end = s.count * 70;
+    compared::put_compared(&list[from..to], &seg[0..end], k.one, k.two, out, n)
+}
+
+// The shares of a plan: splits, then the references that there are more of.
+pub fn put_shares(k: Cut, list: &[u8], seg: &[u8], s: Segment, out: &mut [u64]) -> usize
+    requires { ⌜ Good (now list) s (now seg) × (length (items (now list)) ≤ 65536) × (s .count ≤ 4) ⌝ }
+    ensures { λ m. ⌜ Laid refNumbers 2 0 (sharesOf k (items (now (list .entry))) s (segmentOf s (now (seg .entry)))) (now (out .entry)) m (now (out .exit)) ⌝ }
+{
+    let n = splits::put_splits(list, k.lo, k.hi, k.one, k.two, out, 0);
+    put_more(k, list, seg, s, out, n)
+}
+
+// The unrefs of a plan: the references that there are fewer of, then the drops that release nothing.
+pub fn put_unrefs(
+    k: Cut,
+    list: &[u8],
+    shared: &[u8],
+    table: &[u64],
+    seg: &[u8],
+    s: Segment,
+    out: &mut [u64],
+) -> usize
+    requires { ⌜ Good (now list) s (now seg) × (length (items (now list)) ≤ 65536) × (tableKept (rows (now table)) ≡ true) × (length (now shared) ≡ length (items (now list))) ⌝ }
+    ensures { λ m. ⌜ Laid refNumbers 2 0 (unrefsOf k (rows (now (table .entry))) (items (now (list .entry))) (now (shared .entry)) s (segmentOf s (now (seg .entry)))) (now (out .entry)) m (now (out .exit)) ⌝ }
+{
+    let n = put_fewer(k, list, seg, s, out, 0);
+    drops::put_drops(k, false, list, shared, table, out, n)
+}
+
+// ---- edits and bytes
+
+// The edits of a plan, with new pieces among them: adds, three numbers each.
+pub fn put_changes(
+    file: u64,
+    generation: u64,
+    list: &[u8],
+    seg: &[u8],
+    s: Segment,
+    pieces: &[u64],
+    out: &mut [u8],
+) -> usize
+    requires { ⌜ Good (now list) s (now seg) × (pairs rises (middle (items (now list)) s) ≡ true) × (pairs rises (pieceItems file generation (now pieces)) ≡ true) × (pairs rises (itemsOf (insertAll (pieceItems file generation (now pieces)) (map made (segmentOf s (now seg))))) ≡ true) × (length (items (now list)) ≤ 65536) × (s .count ≤ 6) ⌝ }
+    ensures { λ m. ⌜ Laid (editBytes file) 71 0 (edits (middle (items (now (list .entry))) s) (insertAll (pieceItems file generation (now (pieces .entry))) (map made (segmentOf s (now (seg .entry)))))) (now (out .entry)) m (now (out .exit)) ⌝ }
+{
+    let from = s.from * 70;
+    let to = s.to * 70;
+    let end = s.count * 70;
+    edits::put_edits(
+        &list[from..to],
+        &seg[0..end],
+        pieces,
+        file,
+        generation,
+        out,
+        0,
+    )
+}
+
+// The bytes that records from..to of a list count.
+fn bytes_in(list: &[u8], from: usize, to: usize) -> u64
+    requires { ⌜ (from ≤ to) × (to ≤ length (items (now list))) × (countedBytes (take (to - from) (drop from (items (now list)))) < 2 ^ 64) ⌝ }
+    ensures { λ r. ⌜ r ≡ countedBytes (take (to - from) (drop from (items (now (list .entry))))) ⌝ }
+{
+    let a = from * 70;
+    let b = to * 70;
+    splits::counted_bytes(&list[a..b])
+}
+
+// The bytes that the file's items count after the change.
+pub fn bytes_after(list: &[u8], seg: &[u8], s: Segment) -> u64
+    requires { ⌜ Good (now list) s (now seg) × (bytesOf (items (now list)) s (segmentOf s (now seg)) < 2 ^ 64) ⌝ }
+    ensures { λ r. ⌜ r ≡ bytesOf (items (now (list .entry))) s (segmentOf s (now (seg .entry))) ⌝ }
+{
+    bytes_in(list, 0, s.from) + (bytes_in(seg, 0, s.count) + bytes_in(list, s.to, list.len() / 70))
+}

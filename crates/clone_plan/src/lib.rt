@@ -1,0 +1,1 @@
+// A clone: its refusals and its plan: definitions and laws, without code.

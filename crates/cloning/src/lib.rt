@@ -1,0 +1,131 @@
+// A clone's plan laid over its outputs, as far as each has room: with outputs of no length it is only counted.
+use copies::Copying;
+use drops::Cut;
+use laying::Counts;
+use laying::Edited;
+use laying::RefCounts;
+use segment::Segment;
+ghost use mathlib.Core.Path.{_≡_};
+ghost use mathlib.Core.List.{[], _++_, map};
+ghost use Prim.Native.Nat.{_+_};
+ghost use lib.ListN.{length};
+ghost use Rattle.item.specs.Items.{items};
+ghost use Rattle.table.specs.Rows.{rows};
+ghost use Rattle.cut.specs.Refs.{refOf};
+ghost use Rattle.cut.specs.Edits.{edits as editsOf};
+ghost use Rattle.cut.specs.Pieces.{itemsOf, countedBytes};
+ghost use Rattle.plan.specs.Outputs.{outs, editBytes, refNumbers};
+ghost use Rattle.lines.specs.Lines.{Laid};
+ghost use Rattle.segment.specs.Segments.{Cutting};
+ghost use Rattle.laying.specs.Laid.{RefsLaid, EditsLaid, PlanLaid};
+ghost use Rattle.copies.specs.Copies.{clones};
+ghost use Rattle.copies.specs.Raw.{InFiles};
+ghost use Rattle.copies.specs.Replacing.{top, splitsOf, piecesNow, planFor};
+ghost use Rattle.cloning.specs.Raw.{cutFor, Placing, Replacing};
+
+// The range that is replaced; no extent is written in place.
+pub fn cut_for(c: Copying) -> Cut
+    requires { ⌜ InFiles c ⌝ }
+    ensures { λ r. ⌜ r ≡ cutFor c ⌝ }
+{
+    Cut {
+        lo: c.to,
+        hi: c.to + c.span,
+        one: 0,
+        two: 0,
+    }
+}
+
+// The shares of a plan: splits, then the copies.
+fn put_shares(c: Copying, k: Cut, list: &[u8], source: &[u8], out: &mut [u64]) -> usize
+    requires { ⌜ (k ≡ cutFor c) × Placing c (items (now list)) (items (now source)) ⌝ }
+    ensures { λ m. ⌜ Laid refNumbers 2 0 (splitsOf c (items (now (list .entry))) ++ map refOf (clones c (items (now (source .entry))))) (now (out .entry)) m (now (out .exit)) ⌝ }
+{
+    let n = splits::put_splits(list, k.lo, k.hi, k.one, k.two, out, 0);
+    copying::put_copy_refs(c, source, out, n)
+}
+
+// The shares, unrefs and releases of a plan.
+fn lay_refs(
+    c: Copying,
+    list: &[u8],
+    shared: &[u8],
+    source: &[u8],
+    table: &[u64],
+    shares: &mut [u64],
+    unrefs: &mut [u64],
+    releases: &mut [u64],
+) -> RefCounts
+    requires { ⌜ Replacing c (now list) (now shared) (now source) (now table) ⌝ }
+    ensures { λ r. ⌜ RefsLaid (planFor c (items (now (list .entry))) (now (shared .entry)) (items (now (source .entry))) (rows (now (table .entry))) 0) r (now (shares .entry)) (now (unrefs .entry)) (now (releases .entry)) (now (shares .exit)) (now (unrefs .exit)) (now (releases .exit)) ⌝ }
+{
+    let k = cut_for(c);
+    RefCounts {
+        shares: put_shares(c, k, list, source, shares),
+        unrefs: drops::put_drops(k, false, list, shared, table, unrefs, 0),
+        releases: drops::put_drops(k, true, list, shared, table, releases, 0),
+    }
+}
+
+// The edits of a plan, where `s` and `seg` are what the cut leaves.
+fn put_changes(
+    c: Copying,
+    list: &[u8],
+    source: &[u8],
+    seg: &[u8],
+    s: Segment,
+    out: &mut [u8],
+) -> usize
+    requires { ⌜ Placing c (items (now list)) (items (now source)) × Cutting (c .to) (top c) (now list) s (now seg) ⌝ }
+    ensures { λ m. ⌜ Laid (editBytes (c .number)) 71 0 (editsOf (items (now (list .entry))) (piecesNow c (items (now (list .entry))) (items (now (source .entry))))) (now (out .entry)) m (now (out .exit)) ⌝ }
+{
+    let from = s.from * 70;
+    let to = s.to * 70;
+    let end = s.count * 70;
+    copying::put_copies(c, source, &seg[0..end], &list[from..to], out)
+}
+
+// The bytes that the file's items count after it.
+fn bytes_after(c: Copying, list: &[u8], source: &[u8], seg: &[u8], s: Segment) -> u64
+    requires { ⌜ Placing c (items (now list)) (items (now source)) × Cutting (c .to) (top c) (now list) s (now seg) ⌝ }
+    ensures { λ r. ⌜ r ≡ countedBytes (itemsOf (piecesNow c (items (now (list .entry))) (items (now (source .entry))))) ⌝ }
+{
+    changed_lines::bytes_after(list, seg, s) + copying::copied_bytes(c, source)
+}
+
+// The edits of a plan, and its byte count.
+fn lay_edits(c: Copying, list: &[u8], source: &[u8], edits: &mut [u8]) -> Edited
+    requires { ⌜ Placing c (items (now list)) (items (now source)) ⌝ }
+    ensures { λ r. ⌜ EditsLaid (c .number) (editsOf (items (now (list .entry))) (piecesNow c (items (now (list .entry))) (items (now (source .entry))))) (countedBytes (itemsOf (piecesNow c (items (now (list .entry))) (items (now (source .entry)))))) r (now (edits .entry)) (now (edits .exit)) ⌝ }
+{
+    let mut seg = [0u8; 140];
+    let s = segment::cut_segment(list, c.to, c.to + c.span, &mut seg);
+    Edited {
+        edits: put_changes(c, list, source, &seg, s, edits),
+        bytes: bytes_after(c, list, source, &seg, s),
+    }
+}
+
+// A plan laid over the outputs of a clone, and its numbers.
+pub fn lay_clone(
+    c: Copying,
+    list: &[u8],
+    shared: &[u8],
+    source: &[u8],
+    table: &[u64],
+    edits: &mut [u8],
+    shares: &mut [u64],
+    unrefs: &mut [u64],
+    releases: &mut [u64],
+) -> Counts
+    requires { ⌜ Replacing c (now list) (now shared) (now source) (now table) ⌝ }
+    ensures { λ r. ⌜ PlanLaid (c .number) (planFor c (items (now (list .entry))) (now (shared .entry)) (items (now (source .entry))) (rows (now (table .entry))) 0) (editsOf (items (now (list .entry))) (piecesNow c (items (now (list .entry))) (items (now (source .entry))))) r (outs (now (edits .entry)) (now (shares .entry)) (now (unrefs .entry)) (now (releases .entry)) [] []) (outs (now (edits .exit)) (now (shares .exit)) (now (unrefs .exit)) (now (releases .exit)) [] []) ⌝ }
+{
+    let refs = lay_refs(c, list, shared, source, table, shares, unrefs, releases);
+    let e = lay_edits(c, list, source, edits);
+    Counts {
+        refs,
+        edits: e,
+        writes: 0,
+    }
+}

@@ -1,0 +1,43 @@
+-- What the exports give: an operation's answer as a byte, a plan's numbers over `answer`, and the outputs.
+use mathlib.Core.Bool.{cond}
+use mathlib.Core.List.{List, [], _∷_}
+use mathlib.Core.Path.{_≡_}
+use Prim.Native.Nat.{ℕ}
+use lib.Dec.{leb}
+use lib.ListN.{length}
+use Rattle.records.specs.Stages.{unless}
+use Rattle.endian.specs.Le.{put}
+use Rattle.request.specs.declared.Numbers.{Numbers}
+use Rattle.request.specs.Answers.{Outcome, plan, nothing, refused}
+use Rattle.plan.specs.Plans.{Plan, told, refusedOr}
+use Rattle.plan.specs.Outputs.{Outs, left}
+
+-- the nine numbers of a plan: how many records each output gets, then size, bytes, and the mark for preallocation
+abbrev pub nine : Numbers → List ℕ
+nine n = n .edits ∷ n .shares ∷ n .unrefs ∷ n .releases ∷ n .adds ∷ n .writes ∷ n .size ∷ n .bytes ∷ cond (n .prealloc) 1 0 ∷ []
+
+-- each case of an answer as a byte: 0 for a plan, 100 for nothing to do, a refusal's own number
+abbrev pub code : Outcome Numbers → ℕ
+code (plan n) = 0
+code nothing = 100
+code (refused n) = n
+
+-- each case's numbers: a plan's nine over the first of `answer`; without a plan it keeps its own
+abbrev pub numbersOver : Outcome Numbers → List ℕ → List ℕ
+numbersOver (plan n) answer = put (nine n) 0 answer
+numbersOver nothing answer = answer
+numbersOver (refused n) answer = answer
+
+-- an `answer` of fewer than nine numbers is refused with 27 before all else
+abbrev pub withNine : List ℕ → Outcome Plan → Outcome Plan
+withNine answer o = refusedOr (unless (leb 9 (length answer)) 27) o
+
+-- an answer told: the byte, and every number of `answer`
+pub record Told (o : Outcome Numbers) (r : ℕ) (answer answer′ : List ℕ) : Type 0 where
+  pub byte : r ≡ code o
+  pub numbers : answer′ ≡ numbersOver o answer
+
+-- an export on a file does what its definition says: the byte, and every number of `answer` and of the outputs
+pub record Exported (file : ℕ) (o : Outcome Plan) (r : ℕ) (answer answer′ : List ℕ) (before after : Outs) : Type 0 where
+  pub told : Told (told o) r answer answer′
+  pub outputs : after ≡ left file o before

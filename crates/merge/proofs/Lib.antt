@@ -1,0 +1,4 @@
+pub mod Cases
+pub mod Replaced
+pub mod News
+pub mod Steps

@@ -1,0 +1,4 @@
+pub mod Rows
+pub mod Stays
+pub mod Inserts
+pub mod Whole

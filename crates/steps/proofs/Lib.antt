@@ -1,0 +1,5 @@
+pub mod Bytes
+pub mod Files
+pub mod Plans
+pub mod Steps
+pub mod Runs

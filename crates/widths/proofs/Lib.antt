@@ -1,0 +1,4 @@
+pub mod Tests
+pub mod Changes
+pub mod Operations
+pub mod Read
