@@ -88,7 +88,7 @@ records-right : map (λ (p : Fields × ℕ). sourceRecord table c (p .0)) record
 unfolding records table item encoded row c first firstOf findFrom
 records-right = refl
 
--- ---- a destination's item that is split, one that goes, and one whose key a copy has
+-- ---- a destination's item that is split, one in front that stays, one that goes, and one whose key a copy has
 
 planned : (edits : List Edit) (shares unrefs releases : List Ref) (bytes : ℕ) → Plan
 planned edits shares unrefs releases bytes =
@@ -100,8 +100,8 @@ plans = (
   planned (put (other 0 3145728 0 8192) ∷ put (other 8192 1048576 4096 4096) ∷ put (other 16384 3145728 16384 4096) ∷ []) (ref 3145728 0 ∷ ref 1048576 4096 ∷ []) [] [] 16384,
 )
     ∷ (
-      planFor c (other 8192 3145728 0 4096 ∷ other 12288 4194304 0 4096 ∷ []) (0 ∷ 1 ∷ []) (item 1 4096 1048576 0 4096 ∷ []) (row 3145728 0 ∷ row 4194304 0 ∷ []) 16384,
-      planned (put (other 8192 1048576 0 4096) ∷ delete 12288 ∷ []) (ref 1048576 8192 ∷ []) (ref 4194304 12288 ∷ []) (ref 3145728 8192 ∷ []) 4096,
+      planFor c (other 4096 5242880 0 4096 ∷ other 8192 3145728 0 4096 ∷ other 12288 4194304 0 4096 ∷ []) (0 ∷ 0 ∷ 1 ∷ []) (item 1 4096 1048576 0 4096 ∷ []) (row 3145728 0 ∷ row 4194304 0 ∷ row 5242880 0 ∷ []) 16384,
+      planned (put (other 8192 1048576 0 4096) ∷ delete 12288 ∷ []) (ref 1048576 8192 ∷ []) (ref 4194304 12288 ∷ []) (ref 3145728 8192 ∷ []) 8192,
     )
     ∷ []
 
