@@ -231,7 +231,7 @@ edits-most (f ∷ fs) ps =
 -- ---- of the pieces
 
 -- a cut leaves two pieces of an item at most
-cut-most : (lo hi : ℕ) (fs : List Fields) → length (cutPieces lo hi fs) ≤ 2 * length fs
+pub cut-most : (lo hi : ℕ) (fs : List Fields) → length (cutPieces lo hi fs) ≤ 2 * length fs
 unfolding cutPieces
 cut-most lo hi fs = flat-most (λ (f : Fields). cond (touched lo hi f) (map made (cut lo hi f)) (kept f ∷ [])) 2 (λ f. go f (touched lo hi f)) fs
   where
@@ -305,10 +305,10 @@ module _ (rows : List Row) (ds : List Held) (h : tableKept rows ≡ true) where
   given true l = (omega arith, omega arith)
   given false l = (omega arith, omega arith)
 
-  releases-most : length (releases rows ds) ≤ length ds
+  pub releases-most : length (releases rows ds) ≤ length ds
   releases-most = rows-most ds (λ (row : Row). cond (released ds row) (lines (row .start) ds) []) (λ row. given (released ds row) (lines (row .start) ds) .0) rows h
 
-  unrefs-most : length (unrefs rows ds) ≤ length ds
+  pub unrefs-most : length (unrefs rows ds) ≤ length ds
   unrefs-most = rows-most ds (λ (row : Row). cond (released ds row) [] (lines (row .start) ds)) (λ row. given (released ds row) (lines (row .start) ds) .1) rows h
 
 -- ---- of the new extents and the writes
