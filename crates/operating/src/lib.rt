@@ -1,0 +1,1 @@
+// The operation that an input asks for.
