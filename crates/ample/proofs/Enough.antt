@@ -20,8 +20,8 @@ pub record Few (p : Plan) : Type 0 where
   pub adds : length (p .adds) ≤ mostPlaces
   pub writes : length (p .writes) ≤ 2
 
-pub enough : (r : Rooms) (p : Plan) → Ample r → Few p → roomFor r p ≡ true
-enough r p a f =
+pub fits : (r : Rooms) (p : Plan) → Ample r → Few p → roomFor r p ≡ true
+fits r p a f =
     both (leb (length (p .edits)) (r .edits / 71)) _ (le-leb (length (p .edits)) (r .edits / 71) (let x = a .edits in let y = f .edits in omega arith))
     (both (leb (length (p .shares)) (r .shares / 2)) _ (le-leb (length (p .shares)) (r .shares / 2) (let x = a .shares in let y = f .shares in omega arith))
     (both (leb (length (p .unrefs)) (r .unrefs / 2)) _ (le-leb (length (p .unrefs)) (r .unrefs / 2) (let x = a .unrefs in let y = f .unrefs in omega arith))

@@ -46,12 +46,12 @@ use Rattle.copies.specs.Replacing.{top, dropsOf, splitsOf, piecesNow}
 use Rattle.clone_plan.specs.Clone.{copying, withRoom, draftedLent, cloneLent}
 use Rattle.clone_plan.proofs.Planned as Cloning
 use Rattle.ample.specs.Ample.{mostRecords, mostPlaces, Ample}
-use Rattle.ample.proofs.Enough.{Few, enough}
+use Rattle.ample.proofs.Enough.{Few, fits}
 
 module _ (one two : Rooms) (a : Ample one) (b : Ample two) where
   -- the last stage, behind 26
   last-same : (x : ℕ) (sound : Bool) (p : Plan) → (sound ≡ true → Few p) → firstOf (x ∷ unless sound 26 ∷ unless (roomFor one p) 27 ∷ []) ≡ firstOf (x ∷ unless sound 26 ∷ unless (roomFor two p) 27 ∷ [])
-  last-same x true p f = rw (enough one p a (f refl), enough two p b (f refl)) refl
+  last-same x true p f = rw (fits one p a (f refl), fits two p b (f refl)) refl
   last-same x false p f = unfold firstOf first in refl
 
   -- a change
@@ -180,7 +180,7 @@ pieces-now c fs source = insertAll-length (clones c source) (cutPieces (c .to) (
 
 module _ (one two : Rooms) (a : Ample one) (b : Ample two) where
   room-same : (o : Outcome Plan) → ((p : Plan) → o ≡ plan p → Few p) → withRoom one o ≡ withRoom two o
-  room-same (plan p) h = rw (enough one p a (h p refl), enough two p b (h p refl)) refl
+  room-same (plan p) h = rw (fits one p a (h p refl), fits two p b (h p refl)) refl
   room-same nothing h = refl
   room-same (refused n) h = refl
 

@@ -9,11 +9,23 @@ mostRecords = 9362
 abbrev pub mostPlaces : ℕ
 mostPlaces = 6553
 
--- so many lines of each: of edits 37,448, of shares 28,088, of unrefs 18,724, of releases 9,362, of adds 6,553, of writes 2
+-- for so many lines of each: 37,448 edits, 28,088 shares, 18,724 unrefs, 9,362 releases, 6,553 adds, 2 writes
+abbrev pub enough : Rooms
+enough =
+    record {
+      edits = 71 * (4 * mostRecords);
+      shares = 2 * (3 * mostRecords + 2);
+      unrefs = 2 * (2 * mostRecords);
+      releases = 2 * mostRecords;
+      adds = 3 * mostPlaces;
+      writes = 4 * 2;
+    }
+
+-- outputs at least as long
 pub record Ample (r : Rooms) : Type 0 where
-  pub edits : 71 * (4 * mostRecords) ≤ r .edits
-  pub shares : 2 * (3 * mostRecords + 2) ≤ r .shares
-  pub unrefs : 2 * (2 * mostRecords) ≤ r .unrefs
-  pub releases : 2 * mostRecords ≤ r .releases
-  pub adds : 3 * mostPlaces ≤ r .adds
-  pub writes : 4 * 2 ≤ r .writes
+  pub edits : enough .edits ≤ r .edits
+  pub shares : enough .shares ≤ r .shares
+  pub unrefs : enough .unrefs ≤ r .unrefs
+  pub releases : enough .releases ≤ r .releases
+  pub adds : enough .adds ≤ r .adds
+  pub writes : enough .writes ≤ r .writes

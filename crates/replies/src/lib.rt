@@ -1,0 +1,1 @@
+// What extplan answers to an input.
