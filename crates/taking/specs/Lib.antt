@@ -1,0 +1,3 @@
+pub mod Order
+pub mod Taking
+pub mod Run
