@@ -106,7 +106,7 @@ unfoldable pub takenTo : Read → (phase kind : ℕ) → List ℕ → Read
 takenTo r phase kind v =
     record {
       phase = phase;
-      line = r .line + cond (eqb phase 0) 0 1;
+      line = r .line + cond (not (eqb phase 0)) 1 0;
       volume = cond (eqb phase 2) (volumeOf v) (r .volume);
       file = cond (eqb kind 2 && eqb phase 3) (fileOf v) (r .file);
       second = cond (eqb kind 2 && eqb phase 4) (fileOf v) (r .second);
