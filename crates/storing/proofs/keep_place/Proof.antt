@@ -1,4 +1,4 @@
-use Rattle.storing.proofs.Laws.{kept-none, kept-full, kept-one, one-place}
+use Rattle.item_lines.proofs.Laws.{kept-none, kept-full, kept-one, one-place}
 use Rattle.storing.specs.Storing.{alone}
 use Rattle.lines.proofs.Laws.{put-one}
 use borrow.Author.Tests.{not-true, not-false}

@@ -1,5 +1,5 @@
 use Rattle.taking.specs.Taking.{rowOf, rowNumbers}
-use Rattle.storing.proofs.Laws.{kept-none, kept-full, kept-one}
+use Rattle.item_lines.proofs.Laws.{kept-none, kept-full, kept-one}
 use borrow.Author.Tests.{not-true, not-false}
 use native.Mathlib.Omega.{arith}
 use borrow.Author.Needs.{needs}

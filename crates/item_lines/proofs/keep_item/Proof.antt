@@ -1,11 +1,11 @@
 use Rattle.taking.specs.Taking.{itemOf}
-use Rattle.storing.proofs.Laws.{kept-none, kept-full, kept-one}
+use Rattle.item_lines.proofs.Laws.{kept-none, kept-full, kept-one}
 use Rattle.item.specs.Items.{encode}
 use borrow.Author.Tests.{not-true, not-false}
 use native.Mathlib.Omega.{arith}
 use borrow.Author.Needs.{needs}
-use Rattle.storing.proofs.keep_item.Statement.{statement}
-use Rattle.storing.proofs.keep_item.Tie as tie
+use Rattle.item_lines.proofs.keep_item.Statement.{statement}
+use Rattle.item_lines.proofs.keep_item.Tie as tie
 
 returns : tie.Need-returns
 returns c = let a = c .before .before .args in kept-none encode 70 _ (a .is) (itemOf (a .file) (a .v)) _ (not-true _ (c .if1 .taken))

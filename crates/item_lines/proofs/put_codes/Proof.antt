@@ -1,7 +1,7 @@
-use Rattle.storing.proofs.Laws.{codes-put}
+use Rattle.item_lines.proofs.Laws.{codes-put}
 use borrow.Author.Needs.{needs}
-use Rattle.storing.proofs.put_codes.Statement.{statement}
-use Rattle.storing.proofs.put_codes.Tie as tie
+use Rattle.item_lines.proofs.put_codes.Statement.{statement}
+use Rattle.item_lines.proofs.put_codes.Tie as tie
 
 put-num-requires : tie.Need-put-num-requires
 put-num-requires c κs = search needs

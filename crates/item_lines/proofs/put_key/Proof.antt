@@ -1,7 +1,7 @@
-use Rattle.storing.proofs.Laws.{key-put}
+use Rattle.item_lines.proofs.Laws.{key-put}
 use borrow.Author.Needs.{needs}
-use Rattle.storing.proofs.put_key.Statement.{statement}
-use Rattle.storing.proofs.put_key.Tie as tie
+use Rattle.item_lines.proofs.put_key.Statement.{statement}
+use Rattle.item_lines.proofs.put_key.Tie as tie
 
 put-num-requires : tie.Need-put-num-requires
 put-num-requires c κs = search needs

@@ -1,7 +1,7 @@
-use Rattle.storing.proofs.Laws.{record-put}
+use Rattle.item_lines.proofs.Laws.{record-put}
 use borrow.Author.Needs.{needs}
-use Rattle.storing.proofs.put_record.Statement.{statement}
-use Rattle.storing.proofs.put_record.Tie as tie
+use Rattle.item_lines.proofs.put_record.Statement.{statement}
+use Rattle.item_lines.proofs.put_record.Tie as tie
 
 array-read-put-key : tie.Need-array-read-put-key
 array-read-put-key c = search needs

@@ -1,10 +1,10 @@
-use Rattle.storing.proofs.Laws.{kept-none, kept-full, kept-one, one-place}
-use Rattle.storing.specs.Storing.{byte}
+use Rattle.item_lines.proofs.Laws.{kept-none, kept-full, kept-one, one-place}
+use Rattle.item_lines.specs.Raw.{byte}
 use borrow.Author.Tests.{not-true, not-false}
 use native.Mathlib.Omega.{arith}
 use borrow.Author.Needs.{needs}
-use Rattle.storing.proofs.keep_shared.Statement.{statement}
-use Rattle.storing.proofs.keep_shared.Tie as tie
+use Rattle.item_lines.proofs.keep_shared.Statement.{statement}
+use Rattle.item_lines.proofs.keep_shared.Tie as tie
 
 returns : tie.Need-returns
 returns c = let a = c .before .before .args in kept-none byte 1 _ (a .is) (a .v) _ (not-true _ (c .if1 .taken))
