@@ -1,0 +1,1 @@
+// A decimal number read at a place of a text, with a limit.

@@ -1,0 +1,1 @@
+// A fixed word looked for at a place of a text.
