@@ -42,3 +42,12 @@ took r kind v b x b′ phase item row place file e i f o p items shared table pl
       table = table ∙ rw (o, e) refl;
       places = places ∙ rw (p, e) refl;
     }
+
+-- the same line, by other names of its kind and its numbers
+pub took-same :
+    (r : Read) (kind kind′ : ℕ) (v v′ : List ℕ) (b : Buffers) (x : Read) (b′ : Buffers)
+    → kind ≡ kind′
+    → v ≡ v′
+    → Took r kind v b x b′
+    → Took r kind′ v′ b x b′
+took-same r kind kind′ v v′ b x b′ p q t = rw (← p, ← q) t
