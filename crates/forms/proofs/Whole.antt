@@ -126,6 +126,12 @@ module _ (line : List ℕ) where
   row-none [] p = refl
   row-none (a ∷ hs) p = rw (tested a false (p .0)) (row-none hs (p .1))
 
+  pub row-passed : (hs : List Shape) (n : ℕ) → Passed (take n hs) → readBy hs line ≡ readBy (drop n hs) line
+  unfolding readBy
+  row-passed hs zero p = refl
+  row-passed [] (suc n) p = refl
+  row-passed (a ∷ hs) (suc n) p = rw (tested a false (p .0)) (row-passed hs n (p .1))
+
   -- what was said of a row's line is said of the line
   pub said : (f : Form) (l m : Line) → Says f l → m ≡ l → Says f m
   said f l m h e = rw e h

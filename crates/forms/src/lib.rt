@@ -6,7 +6,8 @@ use records::both;
 use words::after;
 use words::starts_at;
 ghost use mathlib.Core.Path.{_≡_};
-ghost use Rattle.forms.specs.Forms.{readLine};
+ghost use lib.ListN.{drop};
+ghost use Rattle.forms.specs.Forms.{shapes, readBy, readLine};
 ghost use Rattle.forms.specs.Raw.{opened, unread, finished, Says, Opens, readShape};
 
 // A line that was read: which of the eight shapes it has, 0 for none, and its numbers, filled up with zeros.
@@ -145,6 +146,25 @@ fn clone_line(line: &[u8]) -> Form
     finish(line, r, 8)
 }
 
+// A place or a request, by its opening word.
+fn request_line(line: &[u8]) -> Form
+    ensures { λ r. ⌜ Says r (readBy (drop 4 shapes) (now (line .entry))) ⌝ }
+{
+    if starts_at(line, 0, b"(place") {
+        return place_line(line);
+    }
+    if starts_at(line, 0, b"(punch") {
+        return punch_line(line);
+    }
+    if starts_at(line, 0, b"(fallocate") {
+        return fallocate_line(line);
+    }
+    if starts_at(line, 0, b"(clone") {
+        return clone_line(line);
+    }
+    unreadable()
+}
+
 // A line by its opening word; kind 0 if it is unreadable.
 pub fn read_line(line: &[u8]) -> Form
     ensures { λ r. ⌜ Says r (readLine (now (line .entry))) ⌝ }
@@ -161,17 +181,5 @@ pub fn read_line(line: &[u8]) -> Form
     if starts_at(line, 0, b"(extent") {
         return extent_line(line);
     }
-    if starts_at(line, 0, b"(place") {
-        return place_line(line);
-    }
-    if starts_at(line, 0, b"(punch") {
-        return punch_line(line);
-    }
-    if starts_at(line, 0, b"(fallocate") {
-        return fallocate_line(line);
-    }
-    if starts_at(line, 0, b"(clone") {
-        return clone_line(line);
-    }
-    unreadable()
+    request_line(line)
 }

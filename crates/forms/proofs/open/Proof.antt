@@ -1,11 +1,10 @@
 -- The place behind the word.
 use Rattle.forms.proofs.Whole.{open-is}
-use borrow.Author.Needs.{needs}
 use Rattle.forms.proofs.open.Statement.{statement}
 use Rattle.forms.proofs.open.Tie as tie
 
 after-requires : tie.Need-after-requires
-after-requires c κs = search needs
+after-requires c κs = tt
 
 returns : tie.Need-returns
 returns c = open-is _ _ _ (c .after .ensures)

@@ -1,25 +1,25 @@
 -- The line step by step: its word, its number, its end.
+use borrow.Author.Tests.{leb-true}
 use native.Mathlib.Omega.{arith}
 use mathlib.Core.List.{[], _∷_}
 use mathlib.Core.Path.{refl}
 use Rattle.forms.specs.Raw.{rowOf}
 use Rattle.parts.specs.Raw.{numberSteps}
 use Rattle.forms.proofs.Whole.{line-said}
-use borrow.Author.Needs.{needs}
 use Rattle.forms.proofs.place_line.Statement.{statement}
 use Rattle.forms.proofs.place_line.Tie as tie
 
 slice-aggregate-open : tie.Need-slice-aggregate-open
-slice-aggregate-open c = search needs
+slice-aggregate-open c = refl
 
 open-requires : tie.Need-open-requires
-open-requires c κs = search needs
+open-requires c κs = tt
 
 numbers-requires : tie.Need-numbers-requires
-numbers-requires c κs = search needs
+numbers-requires c κs = leb-true 1 12 refl
 
 finish-requires : tie.Need-finish-requires
-finish-requires c κs = search needs
+finish-requires c κs = tt
 
 returns : tie.Need-returns
 unfolding numberSteps
