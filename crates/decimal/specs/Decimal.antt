@@ -13,10 +13,13 @@ unfoldable pub digits : List ℕ → List ℕ
 digits [] = []
 digits (b ∷ s) = cond (isDigit b) (b ∷ digits s) []
 
--- the number that v becomes by more digits
+-- the number that v becomes by one more digit, and by several
+abbrev pub pushed : ℕ → ℕ → ℕ
+pushed v d = v * 10 + (d - 48)
+
 unfoldable pub value : ℕ → List ℕ → ℕ
 value v [] = v
-value v (d ∷ ds) = value (v * 10 + (d - 48)) ds
+value v (d ∷ ds) = value (pushed v d) ds
 
 -- digits that may be a number: there is one, and "0" stands before no other
 unfoldable pub plain : List ℕ → Bool

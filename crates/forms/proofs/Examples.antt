@@ -5,8 +5,9 @@ use Prim.Native.Nat.{ℕ}
 use Prim.Native.String.{String}
 use Rattle.decimal.specs.Decimal.{digits, value, plain}
 use Rattle.words.specs.Words.{bytes, starts}
-use Rattle.forms.specs.Parts.{more, into, numbers}
-use Rattle.forms.specs.Forms.{fields, Line, readBy, readLine}
+use Rattle.parts.specs.Parts.{more, into, numbers}
+use Rattle.parts.specs.Fields.{fields}
+use Rattle.forms.specs.Forms.{Line, readBy, readLine}
 
 abbrev said : String → List ℕ
 said s = readLine (bytes s) .kind ∷ readLine (bytes s) .values

@@ -4,22 +4,10 @@ use mathlib.Core.List.{List, [], _∷_, _++_}
 use mathlib.Core.Option.{Option, none, some}
 use Prim.Native.Nat.{ℕ, _-_, _^_}
 use Prim.Native.String.{String}
-use lib.ListN.{length, drop, replicate}
+use lib.ListN.{length, drop}
 use Rattle.words.specs.Words.{bytes, starts}
-use Rattle.forms.specs.Parts.{Part, Reader, give, next, word, numbers, end}
-
--- A field: its name, the greatest value of each of its numbers, and what they are where it is not there.
-pub record Field : Type 0 where
-  pub name : String
-  pub limits : List ℕ
-  pub missing : List ℕ
-
--- "Fields not shown are 0."
-abbrev pub one : String → ℕ → Field
-one name limit = record { name = name; limits = limit ∷ []; missing = 0 ∷ [] }
-
-abbrev pub two : String → ℕ → Field
-two name limit = record { name = name; limits = limit ∷ limit ∷ []; missing = 0 ∷ 0 ∷ [] }
+use Rattle.parts.specs.Parts.{Part, Reader, next, word, numbers, end, filled}
+use Rattle.parts.specs.Fields.{Field, one, two, fields}
 
 -- A line: its number among the shapes, its word, the limits of numbers that stand right behind the word, and its fields.
 pub record Shape : Type 0 where
@@ -48,36 +36,18 @@ shapes =
     ∷ shape 8 "clone" [] (one "from" most ∷ one "to" most ∷ one "len" most ∷ [])
     ∷ []
 
--- "(" and a line's word; " (" and a field's name
+-- "(" and a line's word
 abbrev pub opening : String → List ℕ
 opening name = bytes "(" ++ bytes name
 
-abbrev pub fieldOpening : String → List ℕ
-fieldOpening name = bytes " (" ++ bytes name
-
--- a field, or what it is where it is not there
-abbrev pub field : Field → Reader
-field f s =
-    cond (starts (fieldOpening (f .name)) s)
-    (next (numbers (f .limits)) (word (bytes ")")) (drop (length (fieldOpening (f .name))) s))
-    (give (f .missing) s)
-
--- fields in this order: one that is unknown, repeated or misplaced is not read, so that the line can't be
-unfoldable pub fields : List Field → Reader
-fields [] = give []
-fields (f ∷ fs) = next (field f) (fields fs)
-
 -- what is behind the word of a line, to the line's end
 abbrev pub whole : Shape → Reader
-whole h = next (numbers (h .limits)) (next (fields (h .fields)) (next (word (bytes ")")) end))
+whole h = next (next (numbers (h .limits)) (fields (h .fields))) (next (word (bytes ")")) end)
 
 -- A line that was read: which shape it has, and its numbers, filled up with zeros to twelve. Kind 0 is an unreadable line.
 pub record Line : Type 0 where
   pub kind : ℕ
   pub values : List ℕ
-
-abbrev pub filled : List ℕ → List ℕ
-filled vs = vs ++ replicate (12 - length vs) 0
 
 abbrev pub unreadable : Line
 unreadable = record { kind = 0; values = filled [] }

@@ -2,9 +2,9 @@
 use mathlib.Core.Bool.{cond}
 use mathlib.Core.List.{List, [], _∷_, _++_}
 use mathlib.Core.Option.{Option, none, some}
-use Prim.Native.Nat.{ℕ}
+use Prim.Native.Nat.{ℕ, _-_}
 use lib.Dec.{eqb}
-use lib.ListN.{length, drop}
+use lib.ListN.{length, drop, replicate}
 use Rattle.decimal.specs.Decimal.{digits, value, sound}
 use Rattle.words.specs.Words.{bytes, starts}
 
@@ -49,3 +49,7 @@ numbers (l ∷ ls) = next (word (bytes " ")) (next (number l) (numbers ls))
 -- the line ends here
 abbrev pub end : Reader
 end s = cond (eqb (length s) 0) (give [] s) none
+
+-- the numbers of a line, filled up with zeros to twelve
+abbrev pub filled : List ℕ → List ℕ
+filled vs = vs ++ replicate (12 - length vs) 0
