@@ -1,12 +1,14 @@
 -- Laws of one line that is taken. Assumes nothing.
 use mathlib.Core.Path.{_≡_, refl, ap, _∙_, sym}
-use mathlib.Core.Bool.{Bool, true, false, cond, _&&_}
-use mathlib.Core.List.{List}
-use Prim.Native.Nat.{ℕ, _+_, _*_, _≤_, _<_}
+use mathlib.Core.Bool.{Bool, true, cond}
+use mathlib.Core.List.{List, [], _∷_}
+use Prim.Native.Nat.{ℕ, zero, suc, _+_, _≤_, _<_}
 use native.Mathlib.Omega.{arith}
-use lib.Dec.{ltb}
-use lib.ListN.{getD}
-use borrow.Author.Tests.{lt-ltb, le-ltb}
+use lib.Dec.{leb}
+use lib.ListN.{length, getD, List·getD-eq-default}
+use borrow.Author.Tests.{leb-true}
+use Rattle.records.specs.Stages.{every}
+use Rattle.records.proofs.Tests.{both-left, both-right}
 use Rattle.taking.specs.Order.{next, order}
 
 -- a choice and a count, by a test that was computed
@@ -18,18 +20,26 @@ counts m n b c p e = e ∙ rw p refl
 
 -- ---- the table of the order
 
+short : (rows : List (List ℕ)) → every (λ (r : List ℕ). leb (length r) 9) rows ≡ true → (k : ℕ) → length (getD rows k []) ≤ 9
+unfolding every
+short [] e k = omega arith
+short (r ∷ rows) e zero = leb-true _ _ (both-left (leb (length r) 9) _ e)
+short (r ∷ rows) e (suc k) = short rows (both-right (leb (length r) 9) _ e) k
+
 pub next-late : (phase kind : ℕ) → 9 ≤ phase → 0 ≡ next phase kind
-unfolding next
-next-late phase kind h = rw (le-ltb phase 9 h) refl
+unfolding next every
+next-late phase kind h = sym (List·getD-eq-default (getD order kind []) 0 (omega (arith, short order refl kind)))
 
 pub next-strange : (phase kind : ℕ) → 9 ≤ kind → 0 ≡ next phase kind
 unfolding next
-next-strange phase kind h = go (ltb phase 9)
-  where
-    go : (b : Bool) → 0 ≡ cond (b && ltb kind 9) (getD order (kind * 9 + phase) 0) 0
-    go true = rw (le-ltb kind 9 h) refl
-    go false = refl
+next-strange phase kind h = ap (λ (r : List ℕ). getD r phase 0) (sym (List·getD-eq-default order [] {n = kind} (omega arith)))
 
-pub next-told : (phase kind : ℕ) → phase < 9 → kind < 9 → getD order (kind * 9 + phase) 0 ≡ next phase kind
+-- any row for one that is not there
+pub next-told : (phase kind : ℕ) (d : List ℕ) → kind < 9 → getD (getD order kind d) phase 0 ≡ next phase kind
 unfolding next
-next-told phase kind h k = rw (lt-ltb phase 9 h, lt-ltb kind 9 k) refl
+next-told phase kind d h = ap (λ (r : List ℕ). getD r phase 0) (within order kind (omega arith))
+  where
+    within : (rows : List (List ℕ)) (k : ℕ) → k < length rows → getD rows k d ≡ getD rows k []
+    within [] k h = absurd (omega arith)
+    within (r ∷ rows) zero h = refl
+    within (r ∷ rows) (suc k) h = within rows k (omega arith)

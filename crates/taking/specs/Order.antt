@@ -1,9 +1,7 @@
 -- The order of an input's lines (document 01, "extplan"): "Lines come as volume, file, items, a clone's second file and
 -- items, extents, places (not for a clone), one request".
-use mathlib.Core.Bool.{cond, _&&_}
-use mathlib.Core.List.{List, [], _∷_, _++_}
-use Prim.Native.Nat.{ℕ, _+_, _*_}
-use lib.Dec.{ltb}
+use mathlib.Core.List.{List, [], _∷_}
+use Prim.Native.Nat.{ℕ}
 use lib.ListN.{getD}
 
 -- What was read so far: 0 a line at fault, 1 nothing, 2 the volume, 3 the file and items of it, 4 the second file and
@@ -36,9 +34,9 @@ abbrev pub cloneLine : List ℕ
 cloneLine = 0 ∷ 0 ∷ 0 ∷ 8 ∷ 8 ∷ 8 ∷ 8 ∷ 0 ∷ 0 ∷ []
 
 -- by kind: 0 unreadable, 1 volume, 2 file, 3 item, 4 extent, 5 place, 6 punch, 7 fallocate, 8 clone
-abbrev pub order : List ℕ
-order = unreadableLine ++ volumeLine ++ fileLine ++ itemLine ++ extentLine ++ placeLine ++ rangeLine ++ rangeLine ++ cloneLine
+abbrev pub order : List (List ℕ)
+order = unreadableLine ∷ volumeLine ∷ fileLine ∷ itemLine ∷ extentLine ∷ placeLine ∷ rangeLine ∷ rangeLine ∷ cloneLine ∷ []
 
 -- what is read after a line of a kind
 unfoldable pub next : (phase kind : ℕ) → ℕ
-next phase kind = cond (ltb phase 9 && ltb kind 9) (getD order (kind * 9 + phase) 0) 0
+next phase kind = getD (getD order kind []) phase 0

@@ -2,10 +2,6 @@ use lib.ListN.{getD}
 use borrow.Author.Needs.{needs}
 use Rattle.taking.proofs.asked_of.Statement.{statement}
 use Rattle.taking.proofs.asked_of.Tie as tie
-use Rattle.taking.proofs.asked_of.Reads as reads
-use Rattle.taking.proofs.asked_of.Lts as lts
-use Rattle.records.proofs.both.Reads as both-reads
-use Rattle.records.proofs.pick.Reads as pick-reads
 
 array-read-t6 : tie.Need-array-read-t6
 array-read-t6 c = search needs

@@ -2,8 +2,6 @@ use Rattle.taking.specs.Taking.{begin}
 use mathlib.Core.Path.{refl}
 use Rattle.taking.proofs.begin.Statement.{statement}
 use Rattle.taking.proofs.begin.Tie as tie
-use Rattle.taking.proofs.begin.Reads as reads
-use Rattle.taking.proofs.begin.Lts as lts
 
 returns : tie.Need-returns
 unfolding begin

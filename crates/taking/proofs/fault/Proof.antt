@@ -3,8 +3,6 @@ use borrow.Author.Tests.{eq-eqb, ne-eqb}
 use mathlib.Core.Path.{refl}
 use Rattle.taking.proofs.fault.Statement.{statement}
 use Rattle.taking.proofs.fault.Tie as tie
-use Rattle.taking.proofs.fault.Reads as reads
-use Rattle.taking.proofs.fault.Lts as lts
 
 returns : tie.Need-returns
 unfolding fault

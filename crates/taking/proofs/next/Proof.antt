@@ -3,8 +3,6 @@ use native.Mathlib.Omega.{arith}
 use borrow.Author.Needs.{needs}
 use Rattle.taking.proofs.next.Statement.{statement}
 use Rattle.taking.proofs.next.Tie as tie
-use Rattle.taking.proofs.next.Reads as reads
-use Rattle.taking.proofs.next.Lts as lts
 
 returns : tie.Need-returns
 returns c = next-late _ _ (omega arith)
@@ -15,15 +13,15 @@ returns-2 c = next-strange _ _ (omega arith)
 mul-result : tie.Need-mul-result
 mul-result c = search needs
 
-add-result : tie.Need-add-result
-add-result c = search needs
+index-1-result : tie.Need-index-1-result
+index-1-result c = search needs
 
-array-read-result : tie.Need-array-read-result
-array-read-result c = search needs
+index-2-result : tie.Need-index-2-result
+index-2-result c = search needs
 
 returns-3 : tie.Need-returns-3
-returns-3 c = next-told _ _ (omega arith) (omega arith)
+returns-3 c = next-told _ _ _ (omega arith)
 
 pub next-spec : {M : Type 1} → statement M
 next-spec =
-    tie.close (tie.spec returns returns-2 mul-result add-result array-read-result returns-3)
+    tie.close (tie.spec returns returns-2 mul-result index-1-result index-2-result returns-3)

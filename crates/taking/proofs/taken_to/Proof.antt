@@ -6,16 +6,6 @@ use native.Mathlib.Omega.{arith}
 use borrow.Author.Needs.{needs}
 use Rattle.taking.proofs.taken_to.Statement.{statement}
 use Rattle.taking.proofs.taken_to.Tie as tie
-use Rattle.taking.proofs.taken_to.Reads as reads
-use Rattle.taking.proofs.taken_to.Lts as lts
-use Rattle.records.proofs.both.Reads as both-reads
-use Rattle.records.proofs.counted.Reads as counted-reads
-use Rattle.taking.proofs.asked_of.Reads as asked-of-reads
-use Rattle.taking.proofs.file_of.Reads as file-of-reads
-use Rattle.taking.proofs.pick_asked.Reads as pick-asked-reads
-use Rattle.taking.proofs.pick_file.Reads as pick-file-reads
-use Rattle.taking.proofs.pick_volume.Reads as pick-volume-reads
-use Rattle.taking.proofs.volume_of.Reads as volume-of-reads
 
 counted-requires : tie.Need-counted-requires
 counted-requires c κs = search needs

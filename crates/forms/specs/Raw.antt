@@ -1,0 +1,40 @@
+-- What the code does with a whole line.
+use mathlib.Core.Bool.{true, cond, _&&_}
+use mathlib.Core.List.{List, [], _∷_}
+use mathlib.Core.Path.{_≡_}
+use Prim.Native.Nat.{ℕ, _+_}
+use lib.Dec.{eqb}
+use lib.ListN.{length, drop, replicate, getD}
+use Rattle.words.specs.Words.{bytes, starts, behind}
+use Rattle.parts.specs.declared.Reading.{Reading}
+use Rattle.forms.specs.Forms.{Shape, shape, shapes, opening, whole, Line, lineOf}
+use Rattle.forms.specs.declared.Form.{Form}
+
+abbrev pub unread : Form
+unread = record { kind = 0; values = replicate 12 0 }
+
+module _ (line : List ℕ) where
+  -- behind the line's word
+  abbrev pub opened : List ℕ → Reading
+  opened w = record { at = behind w 0 line; values = replicate 12 0 }
+
+  -- the line's end
+  abbrev pub finished : ℕ → Reading → Form
+  finished kind r =
+      cond (starts (bytes ")") (drop (r .at) line) && eqb (behind (bytes ")") (r .at) line) (length line))
+      (record { kind = kind; values = r .values })
+      unread
+
+-- the form in code is the line that was read
+abbrev pub Says : Form → Line → Type 0
+Says f l = (f .kind ≡ l .kind) × (f .values ≡ l .values)
+
+-- row n of the table, a line that opens with its word, and what is read of such a line
+abbrev pub rowOf : ℕ → Shape
+rowOf n = getD shapes n (shape 0 "" [] [])
+
+abbrev pub Opens : ℕ → List ℕ → Type 0
+Opens n s = starts (opening (rowOf n .name)) s ≡ true
+
+abbrev pub readShape : ℕ → List ℕ → Line
+readShape n s = lineOf (rowOf n .kind) (whole (rowOf n) (drop (length (opening (rowOf n .name))) s))
