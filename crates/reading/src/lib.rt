@@ -1,8 +1,12 @@
 // The whole input of extplan, read line by line.
+use taking::Read;
 ghost use mathlib.Core.Path.{_≡_};
 ghost use Prim.Native.Nat.{_+_, _≤_};
 ghost use lib.ListN.{length, drop};
+ghost use Rattle.taking.specs.Few.{Few};
+ghost use Rattle.storing.specs.Storing.{buffers, Took, Stored};
 ghost use Rattle.reading.specs.Split.{lineLength};
+ghost use Rattle.reading.specs.Input.{kindOf, valuesOf, readInput};
 
 // Where the line that starts at `at` ends: at its LF, or where the input does.
 fn line_end(s: &[u8], at: usize) -> usize
@@ -17,4 +21,43 @@ fn line_end(s: &[u8], at: usize) -> usize
         i += 1;
     }
     i
+}
+
+// One line taken.
+fn take_next(
+    r: Read,
+    line: &[u8],
+    items: &mut [u8],
+    shared: &mut [u8],
+    table: &mut [u64],
+    places: &mut [u64],
+) -> Read
+    requires { ⌜ Few r 65537 ⌝ }
+    ensures { λ x. ⌜ Took r (kindOf (now (line .entry))) (valuesOf (now (line .entry))) (buffers (now (items .entry)) (now (shared .entry)) (now (table .entry)) (now (places .entry))) x (buffers (now (items .exit)) (now (shared .exit)) (now (table .exit)) (now (places .exit))) ⌝ }
+{
+    let f = forms::read_line(line);
+    let v = f.values;
+    storing::take_line(r, f.kind, v, items, shared, table, places)
+}
+
+// What an input says: its numbers, and in the buffers its items, the source's behind the file's, their shared bytes, the
+// extents and the places. Lines behind one at fault change nothing.
+pub fn read_input(
+    input: &[u8],
+    items: &mut [u8],
+    shared: &mut [u8],
+    table: &mut [u64],
+    places: &mut [u64],
+) -> Read
+    requires { ⌜ length (now input) ≤ 65536 ⌝ }
+    ensures { λ x. ⌜ Stored (readInput (now (input .entry))) (buffers (now (items .entry)) (now (shared .entry)) (now (table .entry)) (now (places .entry))) x (buffers (now (items .exit)) (now (shared .exit)) (now (table .exit)) (now (places .exit))) ⌝ }
+{
+    let mut r = taking::begin();
+    let mut at: usize = 0;
+    while at < input.len() {
+        let end = line_end(input, at);
+        r = take_next(r, &input[at..end], items, shared, table, places);
+        at = end + 1;
+    }
+    r
 }

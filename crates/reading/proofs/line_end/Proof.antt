@@ -6,8 +6,6 @@ use mathlib.Core.Path.{_≡_, refl, _∙_}
 use native.Mathlib.Omega.{arith}
 use Rattle.reading.proofs.line_end.Statement.{statement}
 use Rattle.reading.proofs.line_end.Tie as tie
-use Rattle.reading.proofs.line_end.Reads as reads
-use Rattle.reading.proofs.line_end.Lts as lts
 
 abbrev Inv-loop : tie.InvT-loop
 Inv-loop s at i₀ i = (i ≤ length s) × (i + lineLength (drop i s) ≡ at + lineLength (drop at s))
