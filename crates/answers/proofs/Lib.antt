@@ -1,0 +1,3 @@
+pub mod Nth
+pub mod Choices
+pub mod Examples

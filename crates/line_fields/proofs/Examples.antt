@@ -1,0 +1,23 @@
+-- Fields computed.
+use mathlib.Core.Path.{_≡_, refl}
+use mathlib.Core.List.{List, [], _∷_}
+use Rattle.digits.specs.Text.{text, digits, decimal, joined}
+use Rattle.line_fields.specs.Fields.{spaced, field, pair, unlessZero}
+
+fields :
+    spaced 10
+    ∷ field (text "key") 4096
+    ∷ field (text "key") 0
+    ∷ pair (text "window") 0 16384
+    ∷ unlessZero (text "ram") 0
+    ∷ unlessZero (text "ram") 1
+    ∷ []
+    ≡ text " 10"
+    ∷ text " (key 4096)"
+    ∷ text " (key 0)"
+    ∷ text " (window 0 16384)"
+    ∷ text ""
+    ∷ text " (ram 1)"
+    ∷ []
+unfolding digits decimal joined spaced field pair unlessZero
+fields = refl

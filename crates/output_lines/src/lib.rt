@@ -1,0 +1,49 @@
+// Line n of one output of a plan, printed at the start of a buffer. The result is its length.
+ghost use Prim.Native.Nat.{_*_, _/_, _≤_, _<_};
+ghost use lib.ListN.{length, drop};
+ghost use Rattle.digits.specs.Text.{Added};
+ghost use Rattle.plan.specs.Reading.{editOf, refOf, addOf, writeOf};
+ghost use Rattle.printing.specs.Lines.{editLine, refLine, addLine, writeLine};
+
+// An edit.
+pub fn edit_line(edits: &[u8], n: usize, out: &mut [u8]) -> usize
+    requires { ⌜ (n < length (now edits) / 71) × (256 ≤ length (now out)) ⌝ }
+    ensures { λ r. ⌜ Added (editLine (editOf (drop (n * 71) (now (edits .entry))))) 0 (now (out .entry)) r (now (out .exit)) ⌝ }
+{
+    let item = results::edit_item(edits, n);
+    if results::is_put(edits, n) {
+        return puts::put_put(out, 0, item);
+    }
+    printing::put_delete(out, 0, item.key)
+}
+
+// A share, an unref or a release, by its word.
+pub fn ref_line(word: &[u8], refs: &[u64], n: usize, out: &mut [u8]) -> usize
+    requires { ⌜ (length (now word) ≤ 8) × (n < length (now refs) / 2) × (256 ≤ length (now out)) ⌝ }
+    ensures { λ r. ⌜ Added (refLine (now (word .entry)) (refOf (drop (n * 2) (now (refs .entry))))) 0 (now (out .entry)) r (now (out .exit)) ⌝ }
+{
+    printing::put_ref(out, 0, word, refs[n * 2], refs[n * 2 + 1])
+}
+
+// An add.
+pub fn add_line(adds: &[u64], n: usize, out: &mut [u8]) -> usize
+    requires { ⌜ (n < length (now adds) / 3) × (256 ≤ length (now out)) ⌝ }
+    ensures { λ r. ⌜ Added (addLine (addOf (drop (n * 3) (now (adds .entry))))) 0 (now (out .entry)) r (now (out .exit)) ⌝ }
+{
+    printing::put_add(out, 0, adds[n * 3], adds[n * 3 + 1], adds[n * 3 + 2])
+}
+
+// A sector write.
+pub fn write_line(writes: &[u64], n: usize, out: &mut [u8]) -> usize
+    requires { ⌜ (n < length (now writes) / 4) × (256 ≤ length (now out)) ⌝ }
+    ensures { λ r. ⌜ Added (writeLine (writeOf (drop (n * 4) (now (writes .entry))))) 0 (now (out .entry)) r (now (out .exit)) ⌝ }
+{
+    printing::put_write(
+        out,
+        0,
+        writes[n * 4],
+        writes[n * 4 + 1],
+        writes[n * 4 + 2],
+        writes[n * 4 + 3],
+    )
+}
