@@ -1,2 +1,4 @@
 pub mod Steps
 pub mod Does
+pub mod Limits
+pub mod Examples
