@@ -30,19 +30,19 @@ one-more : (m n : ℕ) (b : Bool) → m ≤ n → m + cond b 1 0 ≤ n + 1
 one-more m n true h = omega arith
 one-more m n false h = omega arith
 
-stored-more : (r : Read) (k : ℕ) (v : List ℕ) → taken r k v .stored ≡ r .stored + length (itemsIn r k v)
+pub stored-more : (r : Read) (k : ℕ) (v : List ℕ) → taken r k v .stored ≡ r .stored + length (itemsIn r k v)
 unfolding taken takenTo itemsIn
 stored-more r k v = ap (λ (n : ℕ). r .stored + n) (sym (only-length (comes 3 (next (r .phase) k) k) _))
 
-shared-more : (r : Read) (k : ℕ) (v : List ℕ) → taken r k v .stored ≡ r .stored + length (sharedIn r k v)
+pub shared-more : (r : Read) (k : ℕ) (v : List ℕ) → taken r k v .stored ≡ r .stored + length (sharedIn r k v)
 unfolding taken takenTo sharedIn
 shared-more r k v = ap (λ (n : ℕ). r .stored + n) (sym (only-length (comes 3 (next (r .phase) k) k) _))
 
-rows-more : (r : Read) (k : ℕ) (v : List ℕ) → taken r k v .rows ≡ r .rows + length (rowsIn r k v)
+pub rows-more : (r : Read) (k : ℕ) (v : List ℕ) → taken r k v .rows ≡ r .rows + length (rowsIn r k v)
 unfolding taken takenTo rowsIn
 rows-more r k v = ap (λ (n : ℕ). r .rows + n) (sym (only-length (comes 4 (next (r .phase) k) k) _))
 
-places-more : (r : Read) (k : ℕ) (v : List ℕ) → taken r k v .places ≡ r .places + length (placesIn r k v)
+pub places-more : (r : Read) (k : ℕ) (v : List ℕ) → taken r k v .places ≡ r .places + length (placesIn r k v)
 unfolding taken takenTo placesIn
 places-more r k v = ap (λ (n : ℕ). r .places + n) (sym (only-length (comes 5 (next (r .phase) k) k) _))
 

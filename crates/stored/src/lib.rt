@@ -1,0 +1,1 @@
+// What the buffers hold once an input was read, and how much: laws of the definitions, without code.
