@@ -7,14 +7,12 @@ use native.Mathlib.Omega.{arith}
 use native.Mathlib.Nat.{mul-mod-left, div-add-mod', le-div-iff-mul-le}
 use lib.ListN.{length, take, drop, length-append}
 use lib.Seq.{take-append-seam}
-use Rattle.endian.specs.Le.{Bytes, enc, put}
-use Rattle.endian.proofs.Numbers.{bytes-enc}
-use Rattle.endian.proofs.Fields.{encs}
+use Rattle.endian.specs.Le.{put}
 use Rattle.records.specs.Stages.{every}
 use Rattle.records.proofs.Lists.{every-true}
 use Rattle.item.specs.Items.{Fields, decode, encode, items}
 use Rattle.segment.proofs.Buffer.{length-encode}
-use Rattle.item.proofs.Runs.{encode-encs, decode-encode}
+use Rattle.item.proofs.Runs.{decode-encode}
 use Rattle.table.specs.declared.Row.{Row}
 use Rattle.table.specs.Rows.{rowOf, rows}
 use Rattle.applying.specs.Lent.{rowNumbers}
@@ -47,25 +45,6 @@ module _ (w : ℕ) (pos : 0 < w) (s t : List ℕ) (h : length s % w ≡ 0) where
   front-fits = le-div-iff-mul-le pos .1 (omega (arith, div-add-mod' (length s) w, length-append s t))
 
 -- ---- the records of a list and the rows of a table
-
-bytes-append : (s t : List ℕ) → Bytes s → Bytes t → Bytes (s ++ t)
-bytes-append [] t a b i = b i
-bytes-append (x ∷ s) t a b zero = a 0
-bytes-append (x ∷ s) t a b (suc i) = bytes-append s t (λ j. a (suc j)) b i
-
-bytes-none : Bytes []
-bytes-none i = omega arith
-
-bytes-encs : (ws vs : List ℕ) → Bytes (encs ws vs)
-unfolding encs
-bytes-encs [] vs = bytes-none
-bytes-encs (w ∷ ws) [] = bytes-none
-bytes-encs (w ∷ ws) (v ∷ vs) = bytes-append (enc w v) (encs ws vs) (bytes-enc w v) (bytes-encs ws vs)
-
-pub bytes-items : (fs : List Fields) → Bytes (flatMap encode fs)
-unfolding flatMap
-bytes-items [] = bytes-none
-bytes-items (f ∷ fs) = bytes-append (encode f) (flatMap encode fs) (rw (encode-encs f) (bytes-encs _ _)) (bytes-items fs)
 
 pub items-back : (fs : List Fields) → every fieldsFit fs ≡ true → items (flatMap encode fs) ≡ fs
 unfolding items

@@ -26,7 +26,8 @@ use Rattle.widths.proofs.Operations.{records-fit}
 use Rattle.history.specs.States.{FileList, State, listOf, withList}
 use Rattle.history.specs.Calls.{Call, Lent, lentOf, afterApplying, applying, stepOf, step}
 use Rattle.steps.specs.Stored.{Stored, Buffers, bytesOf, readFile, readState, answerLent, listLent, tableLent, storedAfter, stepLentOf, stepLent, Whole, Lendable}
-use Rattle.steps.proofs.Bytes.{laid-front, flat-whole, bytes-items, items-back, rows-back}
+use Rattle.widths.proofs.Bytes.{bytes-items}
+use Rattle.steps.proofs.Bytes.{laid-front, flat-whole, items-back, rows-back}
 use Rattle.steps.proofs.Files.{list-read, with-read, whole-of, whole-with}
 use Rattle.steps.proofs.Plans.{answer-read, answer-fits, applying-read}
 
