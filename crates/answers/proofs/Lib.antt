@@ -1,3 +1,4 @@
 pub mod Nth
 pub mod Choices
+pub mod Some
 pub mod Examples

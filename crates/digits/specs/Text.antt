@@ -1,4 +1,4 @@
--- Text as bytes, and numbers as text (document 01, "extplan": input and output are "decimal").
+-- Text as bytes, and numbers as text (document 01, "extplan": "decimal, a form a line").
 use mathlib.Core.List.{List, [], _∷_, _++_}
 use mathlib.Core.Path.{_≡_}
 use Prim.Native.Nat.{ℕ, zero, suc, _+_, _/_, _%_}

@@ -27,5 +27,6 @@ addedFields f =
     ∷ unlessZero (text "other") (f .other)
     ∷ [])
 
+-- "(put (key 0) (kind 1) (extent 1048576 16384) (window 0 4096))"; what is added stands behind
 unfoldable pub putLine : Fields → List ℕ
 putLine f = joined (text "(put" ∷ itemFields f ∷ addedFields f ∷ end ∷ [])

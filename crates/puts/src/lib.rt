@@ -1,9 +1,9 @@
 // The line of an item that is put, appended to a buffer. The result is the place behind it.
 use digits::put_text;
+use item::Item;
 use line_fields::put_field;
 use line_fields::put_pair;
 use line_fields::put_unless_zero;
-use item::Item;
 ghost use Prim.Native.Nat.{_+_, _≤_};
 ghost use lib.ListN.{length};
 ghost use Rattle.digits.specs.Text.{Added};

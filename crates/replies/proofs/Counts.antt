@@ -1,21 +1,29 @@
 -- How much an input of so many bytes can say. Assumes nothing.
-use mathlib.Core.Path.{_≡_, refl, ap, _∙_, sym}
+use mathlib.Core.Path.{_≡_, refl, ap, ap₂, _∙_, sym}
 use mathlib.Core.Bool.{Bool, true, false, cond, _&&_, not}
-use mathlib.Core.List.{List, [], _∷_, _++_}
+use mathlib.Core.List.{List, [], _∷_, _++_, flatMap}
 use Prim.Native.Nat.{ℕ, suc, _+_, _*_, _≤_}
 use native.Mathlib.Omega.{arith}
-use native.Mathlib.Nat.{mul-add, mul-zero}
+use native.Mathlib.Nat.{mul-add, mul-zero, mul-one, mod-eq-of-lt}
 use lib.Dec.{eqb}
-use lib.ListN.{length, length-append}
+use lib.ListN.{length, take, drop, length-append, take-append-drop}
+use lib.Seq.{length-take-le}
 use borrow.Author.Tests.{eqb-true}
+use Rattle.endian.specs.Le.{enc}
 use Rattle.records.specs.Select.{only}
-use Rattle.records.proofs.Tests.{both-left}
+use Rattle.records.proofs.Lists.{flat-append}
+use Rattle.item.specs.Items.{Fields}
+use Rattle.ample.specs.Ample.{mostRecords, mostPlaces}
+use Rattle.forms.proofs.Sound.{least, value-within, line-long}
+use Rattle.item_lines.specs.Raw.{byte}
 use Rattle.taking.specs.declared.Read.{Read}
 use Rattle.taking.specs.Order.{next}
-use Rattle.taking.specs.Taking.{comes, taken, takenTo, itemsIn, sharedIn, rowsIn, placesIn}
-use Rattle.taking.specs.Run.{after, along}
+use Rattle.taking.specs.Taking.{comes, sharedOf, begin, taken, takenTo, itemsIn, sharedIn, rowsIn, placesIn}
+use Rattle.taking.specs.Run.{Reading, after, along, readingOf}
+use Rattle.storing.proofs.Runs.{stored-more, shared-more, rows-more, places-more}
 use Rattle.reading.specs.Split.{onto, lines}
-use Rattle.reading.specs.Input.{kindOf, valuesOf}
+use Rattle.reading.specs.Input.{kindOf, valuesOf, readInput}
+use Rattle.replies.specs.Raw.{mostRows}
 
 -- ---- bytes of lines
 
@@ -78,3 +86,85 @@ items-few : (r : Read) (ls : List (List ℕ)) → r .items ≤ r .stored → aft
 unfolding after
 items-few r [] h = h
 items-few r (l ∷ ls) h = items-few (taken r (kindOf l) (valuesOf l)) ls (items-step r (kindOf l) (valuesOf l) h)
+
+-- ---- how long lines are that add something
+
+-- a line of kind k, which has w - 1 bytes at least
+only-long : {A : Type 0} (w k : ℕ) (p : ℕ) (l : List ℕ) (a : A) → w ≤ suc (least k) → w * length (only (comes k p (kindOf l)) a) ≤ length l + 1
+only-long w k p l a h = go (eqb (kindOf l) k) (not (eqb p 0)) refl
+  where
+    go : (b c : Bool) → eqb (kindOf l) k ≡ b → w * length (only (b && c) a) ≤ length l + 1
+    go true true e = omega (arith, line-long l k (eqb-true (kindOf l) k e), mul-one w)
+    go true false e = omega (arith, mul-zero w)
+    go false c e = omega (arith, mul-zero w)
+
+item-long : (r : Read) (l : List ℕ) → 7 * length (itemsIn r (kindOf l) (valuesOf l)) ≤ length l + 1
+unfolding itemsIn
+item-long r l = only-long 7 3 (next (r .phase) (kindOf l)) l _ (omega arith)
+
+row-long : (r : Read) (l : List ℕ) → 9 * length (rowsIn r (kindOf l) (valuesOf l)) ≤ length l + 1
+unfolding rowsIn
+row-long r l = only-long 9 4 (next (r .phase) (kindOf l)) l _ (omega arith)
+
+place-long : (r : Read) (l : List ℕ) → 10 * length (placesIn r (kindOf l) (valuesOf l)) ≤ length l + 1
+unfolding placesIn
+place-long r l = only-long 10 5 (next (r .phase) (kindOf l)) l _ (omega arith)
+
+-- ---- shared numbers are bytes
+
+byte-same : (v : ℕ) → v ≤ 255 → byte v ≡ v ∷ []
+unfolding enc
+byte-same v h = ap (λ (x : ℕ). x ∷ []) (mod-eq-of-lt (omega arith))
+
+line-shared : (r : Read) (l : List ℕ) → flatMap byte (sharedIn r (kindOf l) (valuesOf l)) ≡ sharedIn r (kindOf l) (valuesOf l)
+unfolding sharedIn flatMap
+line-shared r l = go (eqb (kindOf l) 3) (not (eqb (next (r .phase) (kindOf l)) 0)) refl
+  where
+    go : (b c : Bool) → eqb (kindOf l) 3 ≡ b → flatMap byte (only (b && c) (sharedOf (valuesOf l))) ≡ only (b && c) (sharedOf (valuesOf l))
+    go true true e = rw (byte-same (sharedOf (valuesOf l)) (value-within l 3 11 (eqb-true (kindOf l) 3 e))) refl
+    go true false e = refl
+    go false c e = refl
+
+along-shared : (r : Read) (ls : List (List ℕ)) → flatMap byte (along kindOf valuesOf sharedIn r ls) ≡ along kindOf valuesOf sharedIn r ls
+unfolding along
+along-shared r [] = unfold flatMap in refl
+along-shared r (l ∷ ls) =
+    let a : List ℕ = sharedIn r (kindOf l) (valuesOf l) in
+    let b : List ℕ = along kindOf valuesOf sharedIn (taken r (kindOf l) (valuesOf l)) ls in
+    flat-append byte a b ∙ ap₂ (λ (x y : List ℕ). x ++ y) (line-shared r l) (along-shared (taken r (kindOf l) (valuesOf l)) ls)
+
+-- ---- of a whole input
+
+-- what the counts of a reading are, and how far they go
+pub record Known (x : Reading) : Type 0 where
+  pub items : x .numbers .items ≡ length (x .items)
+  pub stored : x .numbers .stored ≡ length (x .items ++ x .source)
+  pub shared : x .numbers .stored ≡ length (x .shared)
+  pub bytes : flatMap byte (x .shared) ≡ x .shared
+  pub rows : x .numbers .rows ≡ length (x .rows)
+  pub places : x .numbers .places ≡ length (x .places)
+  pub fewItems : length (x .items ++ x .source) ≤ mostRecords
+  pub fewRows : length (x .rows) ≤ mostRows
+  pub fewPlaces : length (x .places) ≤ mostPlaces
+
+pub known : (s : List ℕ) → length s ≤ 65536 → Known (readInput s)
+unfolding readInput readingOf begin
+known s h =
+    let ls : List (List ℕ) = lines s in
+    let all : List Fields = along kindOf valuesOf itemsIn begin ls in
+    let n : ℕ = after kindOf valuesOf begin ls .items in
+    let size = lines-size s in
+    let stored = along-count itemsIn (λ (x : Read). x .stored) stored-more begin ls in
+    let few = items-few begin ls (omega arith) in
+    let whole : take n all ++ drop n all ≡ all = take-append-drop n all in
+    record {
+      items = sym (length-take-le n all (omega (arith, stored, few)));
+      stored = rw whole (omega (arith, stored));
+      shared = omega (arith, along-count sharedIn (λ (x : Read). x .stored) shared-more begin ls);
+      bytes = along-shared begin ls;
+      rows = omega (arith, along-count rowsIn (λ (x : Read). x .rows) rows-more begin ls);
+      places = omega (arith, along-count placesIn (λ (x : Read). x .places) places-more begin ls);
+      fewItems = rw whole (omega (arith, along-few itemsIn 7 item-long begin ls, size, h));
+      fewRows = omega (arith, along-few rowsIn 9 row-long begin ls, size, h);
+      fewPlaces = omega (arith, along-few placesIn 10 place-long begin ls, size, h);
+    }

@@ -1,3 +1,5 @@
 pub mod Parts
 pub mod Operation
 pub mod Counts
+pub mod Replying
+pub mod Lines

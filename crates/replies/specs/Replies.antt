@@ -1,0 +1,38 @@
+-- What extplan answers to at most 65,536 bytes, line by line (document 01, "extplan").
+use mathlib.Core.Bool.{cond}
+use mathlib.Core.List.{List, [], _∷_, flatMap}
+use mathlib.Core.Path.{_≡_}
+use Prim.Native.Nat.{ℕ}
+use lib.Dec.{eqb}
+use lib.ListN.{take}
+use Rattle.item.specs.Items.{encode}
+use Rattle.request.specs.Answers.{Outcome, said}
+use Rattle.plan.specs.Plans.{Plan}
+use Rattle.plan.specs.Outputs.{Rooms, Outs}
+use Rattle.ample.specs.Ample.{enough}
+use Rattle.taking.specs.Run.{Reading}
+use Rattle.taking.specs.Taking.{rowNumbers, fault}
+use Rattle.reading.specs.Input.{readInput}
+use Rattle.operating.specs.Operations.{operation}
+use Rattle.printing.specs.Lines.{faultLine}
+use Rattle.answers.specs.Printed.{printed, shown, HoldsAnswer}
+use Rattle.replies.specs.declared.Reply.{Reply}
+
+-- the operation on what was read; "Items under a second `file` line are the clone's source", and their `shared` is not
+-- looked at
+unfoldable pub operationOn : Reading → Rooms → Outcome Plan
+operationOn x rooms =
+    operation (x .numbers) (flatMap encode (x .items)) (take (x .numbers .items) (x .shared)) (flatMap encode (x .source)) (flatMap rowNumbers (x .rows)) (x .places) rooms
+
+-- "line N unreadable or out of this order gives `(line N)`, no request the next N"; else these lines
+abbrev pub linesOr : ℕ → List (List ℕ) → List (List ℕ)
+linesOr n ls = cond (eqb n 0) ls (faultLine n ∷ [])
+
+-- with outputs that are long enough, as all longer ones are (`operation-same`, proofs/Operation)
+unfoldable pub answerTo : List ℕ → List (List ℕ)
+answerTo input = linesOr (fault (readInput input .numbers)) (printed (operationOn (readInput input) enough))
+
+-- a reply to an input, with its lines in the outputs
+pub record Replied (input : List ℕ) (r : Reply) (o : Outs) : Type 0 where
+  pub lines : linesOr (r .fault) (shown (r .answer) o) ≡ answerTo input
+  pub holds : HoldsAnswer (said (r .answer)) o

@@ -1,0 +1,3 @@
+pub mod Back
+pub mod Operations
+pub mod Examples
