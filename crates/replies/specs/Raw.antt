@@ -2,7 +2,8 @@
 use mathlib.Core.List.{List}
 use Prim.Native.Nat.{ℕ, _*_, _≤_}
 use lib.ListN.{length}
-use Rattle.ample.specs.Ample.{mostRecords, mostPlaces}
+use Rattle.plan.specs.Outputs.{outs, roomsOf}
+use Rattle.ample.specs.Ample.{mostRecords, mostPlaces, Ample}
 
 -- "(extent)" and its line's end are 9 bytes
 abbrev pub mostRows : ℕ
@@ -13,3 +14,7 @@ pub record Roomy (is ss ts ps : List ℕ) : Type 0 where
   pub shared : mostRecords ≤ length ss
   pub table : mostRows * 5 ≤ length ts
   pub places : mostPlaces ≤ length ps
+
+-- outputs that suffice for every plan (a record, so that a caller's arrays are not counted through to see it)
+pub record Spacious (e s u r a w : List ℕ) : Type 0 where
+  pub ample : Ample (roomsOf (outs e s u r a w))

@@ -4,11 +4,10 @@ ghost use mathlib.Core.Path.{_≡_};
 ghost use Prim.Native.Nat.{_≤_};
 ghost use lib.ListN.{length};
 ghost use Rattle.digits.specs.Text.{Added};
-ghost use Rattle.plan.specs.Outputs.{outs, roomsOf};
-ghost use Rattle.ample.specs.Ample.{Ample};
+ghost use Rattle.plan.specs.Outputs.{outs};
 ghost use Rattle.answers.specs.Printed.{lineAt};
 ghost use Rattle.replies.specs.Replies.{answerTo, Replied};
-ghost use Rattle.replies.specs.Raw.{Roomy};
+ghost use Rattle.replies.specs.Raw.{Roomy, Spacious};
 
 // The line of the input that is at fault, or 0, and the operation's answer where none is.
 pub struct Reply {
@@ -32,7 +31,7 @@ pub fn answer(
 ) -> Reply
     requires { ⌜ length (now input) ≤ 65536 ⌝ }
     requires { ⌜ Roomy (now items) (now shared) (now table) (now places) ⌝ }
-    requires { ⌜ Ample (roomsOf (outs (now edits) (now shares) (now unrefs) (now releases) (now adds) (now writes))) ⌝ }
+    requires { ⌜ Spacious (now edits) (now shares) (now unrefs) (now releases) (now adds) (now writes) ⌝ }
     ensures { λ r. ⌜ Replied (now (input .entry)) r (outs (now (edits .exit)) (now (shares .exit)) (now (unrefs .exit)) (now (releases .exit)) (now (adds .exit)) (now (writes .exit))) ⌝ }
 {
     let r = reading::read_input(input, items, shared, table, places);

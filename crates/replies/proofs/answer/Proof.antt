@@ -67,7 +67,7 @@ returns-2 : tie.Need-returns-2
 returns-2 c =
     let a = c .before .before .before .before .before .before .before .before .before .before .before .before .before .before .before .before .before .before .before .before .before .before .before .before .before .before .before .before .before .before .before .before .before .before .before .before .before .before .before .before .before .before .before .before .before .before .before .before .before in
     let k = c .before .before .before .before .before .before .before .before .before .before .before .before .before .before .before .before .before .before .before .before .before .before .before .before .before .before .before .before .before .before .before .before .before .read-input .ok in
-    plan-replied _ (a .pre .0) _ _ _ (a .pre .1 .0) (c .before .before .before .before .before .before .before .before .before .before .before .before .before .before .before .before .before .before .before .before .before .before .before .before .before .before .before .before .before .before .before .before .before .read-input .ensures) _ _ _ (sym (c .before .before .before .before .before .before .before .before .before .before .before .before .before .before .before .before .before .before .before .before .before .before .before .if1 .left) ∙ c .before .before .before .before .before .before .before .before .before .before .before .before .before .before .before .before .before .before .before .before .before .before .before .before .fault .ensures) (a .pre .1 .1) (omega (arith, k .1 .1 .0)) (omega (arith, k .1 .1 .1 .0)) (c .before .before .before .before .before .before .before .before .before .before .before .before .operate .ensures)
+    plan-replied _ (a .pre .0) _ _ _ (a .pre .1 .0) (c .before .before .before .before .before .before .before .before .before .before .before .before .before .before .before .before .before .before .before .before .before .before .before .before .before .before .before .before .before .before .before .before .before .read-input .ensures) _ _ _ (sym (c .before .before .before .before .before .before .before .before .before .before .before .before .before .before .before .before .before .before .before .before .before .before .before .if1 .left) ∙ c .before .before .before .before .before .before .before .before .before .before .before .before .before .before .before .before .before .before .before .before .before .before .before .before .fault .ensures) (a .pre .1 .1 .ample) (omega (arith, k .1 .1 .0)) (omega (arith, k .1 .1 .1 .0)) (c .before .before .before .before .before .before .before .before .before .before .before .before .operate .ensures)
 
 pub answer-spec : {M : Type 1} → statement M
 answer-spec =
