@@ -7,6 +7,7 @@ pub fn list_bytes(ino: u64, items: &[(u64, Vec<u8>)]) -> Vec<u8> {
 }
 /// What is lent, but for outputs.
 #[derive(Clone)]
+#[cfg_attr(not(ours), allow(dead_code))]
 pub struct Lent {
     pub sector: u64, pub total: u64, pub generation: u64, pub snapshot: u64, pub ino: u64, pub size: u64, pub nodatacow: bool, pub op: Op,
     pub list: Vec<u8>, pub shared: Vec<u8>, pub table: Vec<u64>, pub places: Vec<u64>,

@@ -30,7 +30,7 @@ mod ours;
 #[cfg(ours)]
 mod fuzz;
 
-const USE: &str = "oracle extplan|text <INPUT | gen|sample SEED COUNT | through PROGRAM <INPUTS | compare ANSWERS <INPUTS
+const USE: &str = "oracle extplan|text <INPUT | gen|sample SEED COUNT | through PROGRAM <INPUTS | compare ANSWERS [counts] <INPUTS
 oracle fuzz|bytes SEED COUNT [fallocate|clone] | large SEED COUNT [clone]   (built with libffi.a)";
 fn main() {
     std::panic::set_hook(Box::new(|_| {}));
@@ -54,7 +54,7 @@ fn main() {
         "extplan" => extplan::one(),
         "text" => extplan::text(),
         "through" => extplan::through(word(2)),
-        "compare" => if !extplan::compare(word(2)) { std::process::exit(1) },
+        "compare" => if !extplan::compare(word(2), word(3) == "counts") { std::process::exit(1) },
         "gen" => texts::print(number(2), number(3)),
         "sample" => texts::sample(number(2), number(3)),
         _ => { eprintln!("{USE}"); std::process::exit(2) }
