@@ -1,7 +1,9 @@
+// Our side and the Rust on random requests.
 use crate::gen::{self, Rng};
 use crate::oracle::{self, Op, Outcome, Plan, Request};
-use crate::ours::{self, Lent};
-use crate::{clones, text};
+use crate::branches::{self, unlike};
+use crate::lent::Lent;
+use crate::{ours, text};
 use std::collections::BTreeMap;
 
 fn rooms_for(p: &Plan) -> [usize; 6] {
@@ -10,15 +12,6 @@ fn rooms_for(p: &Plan) -> [usize; 6] {
 pub fn ample(l: &Lent) -> [usize; 6] {
     let n = (2 * l.list.len() + if l.own { l.list.len() } else { l.source.len() }) / 70 + 16 + l.places.len();
     [71 * n, 2 * n, 2 * n, 2 * n, 3 * n, 40]
-}
-/// Why the two differ, if they do. A Rust that panics on a sum is let pass for 17 (17's sums are ours), and for 14 where a clone is not asked.
-pub fn unlike(r: &Request, theirs: &Outcome, us: &Outcome, bad: Option<String>) -> Option<String> {
-    if bad.is_some() { return bad; }
-    if let Outcome::Panicked(m) = theirs {
-        let clone = matches!(r.op, Op::Clone(..));
-        if m.contains("overflow") && (*us == Outcome::Refused(17) || !clone && *us == Outcome::Refused(14)) { return None; }
-    }
-    (theirs != us).then(|| "outcome".into())
 }
 fn both(r: &Request) -> (Outcome, Outcome, Option<String>) {
     let lent = Lent::new(r);
@@ -59,52 +52,6 @@ fn shrink(r: Request) -> Request {
     }
     r
 }
-fn shape(p: &Plan, r: &Request, n: &mut BTreeMap<String, u64>) {
-    let mut add = |s: &str| *n.entry(s.to_string()).or_default() += 1;
-    if let Op::Clone(..) = r.op { return clones::shape(p, r, add); }
-    let new = p.writes.iter().filter(|w| p.adds.iter().any(|a| a[0] == w[1])).count();
-    let inplace = p.writes.len() - new;
-    add(&format!("plan: {inplace} in place, {new} new"));
-    if let Op::Fallocate(o, n, keep) = r.op {
-        let pieces = &p.adds[new..];
-        let many = match pieces.len() { 0 => "no pieces", 1 => "one piece", 2..=9 => "2 to 9 pieces", _ => "10 pieces or more" };
-        add(&format!("fallocate: {many}"));
-        if pieces.windows(2).any(|w| w[0][1] == 1 << 28 && w[0][2] + w[0][1] == w[1][2]) { add("fallocate: a hole of two pieces or more"); }
-        if pieces.windows(2).any(|w| w[0][2] + w[0][1] < w[1][2]) { add("fallocate: two holes or more"); }
-        let size = r.facts.files[0].size;
-        add(if p.size > size { "fallocate: the size grows" } else if keep && o + n > size { "fallocate: past the size, which is kept" } else { "fallocate: inside the size" });
-        if !p.writes.is_empty() && o / r.sector > size / r.sector { add("fallocate: the old end's sector is before the range"); }
-        if !p.shares.is_empty() && inplace == 0 { add("fallocate: an item split around a new sector"); }
-    }
-    if p.edits.is_empty() { add("plan: without edits"); }
-    if !p.shares.is_empty() { add("plan: with shares"); }
-    if p.shares.windows(2).any(|w| w[0] == w[1]) { add("plan: two equal shares"); }
-    if !p.unrefs.is_empty() { add("plan: with unrefs"); }
-    if p.unrefs.windows(2).any(|w| w[0] == w[1]) { add("plan: two equal unrefs"); }
-    if p.unrefs.windows(2).any(|w| w[0] > w[1]) { add("plan: unrefs not rising (compared, then drops)"); }
-    if !p.releases.is_empty() { add("plan: with releases"); }
-    if !p.releases.is_empty() && !p.unrefs.is_empty() { add("plan: releases and unrefs"); }
-    if p.shares.iter().chain(&p.unrefs).chain(&p.releases).any(|x| x[1] > 1 << 63) { add("plan: wrapped reference offset in a line"); }
-    if inplace > 0 {
-        let sector = r.sector;
-        let joined = p.edits.iter().filter(|(_, d)| d.as_ref().is_some_and(|d| d[20] == 1 && crate::superblock::le64(d, 0) == r.facts.generation.wrapping_add(1) && crate::superblock::le64(d, 45) > sector)).count();
-        if joined > 0 {
-            add(&format!("plan: in place, {joined} joined item(s)"));
-            // a joined item that reaches over two or more records that stood before the cut, on its left
-            let keys: Vec<u64> = r.facts.files[0].items.iter().map(|x| x.0).collect();
-            let firstw = p.writes.iter().map(|w| w[0]).min().unwrap();
-            let lastw = p.writes.iter().map(|w| w[0]).max().unwrap();
-            for (k, d) in &p.edits { if let Some(d) = d { if d[20] == 1 && crate::superblock::le64(d, 0) == r.facts.generation.wrapping_add(1) && crate::superblock::le64(d, 45) > sector {
-                let end = k + crate::superblock::le64(d, 45);
-                let before = keys.iter().filter(|x| **x >= *k && **x < firstw).count();
-                add(&format!("join: takes in {before} item(s) before the first written sector"));
-                if end > lastw + sector { add("join: takes in what follows the last written sector"); }
-                if p.writes.len() == 2 && *k <= firstw && end > lastw { add("join: over both sectors"); }
-            } } }
-        }
-        if p.edits.iter().any(|(_, d)| d.as_ref().is_some_and(|d| d[16] != 0 && d[20] == 1 && crate::superblock::le64(d, 0) == r.facts.generation.wrapping_add(1))) { add("plan: in place in a compressed item"); }
-    }
-}
 pub fn fuzz(make: fn(&mut Rng) -> Request, seed: u64, count: u64) {
     std::panic::set_hook(Box::new(|_| {}));
     let mut g = Rng(seed.wrapping_mul(0x1234_5678_9abc_def1));
@@ -113,18 +60,11 @@ pub fn fuzz(make: fn(&mut Rng) -> Request, seed: u64, count: u64) {
     let mut diffs = 0u64;
     for i in 0..count {
         let mut r = make(&mut g);
-        if !matches!(r.op, Op::Clone(..)) {
-            let (_, wanted) = oracle::run(&r);
-            r.facts.places = Some(gen::places(&mut g, &r, &wanted));
-        }
+        gen::choose_places(&mut g, &mut r);
         let lent = Lent::new(&r);
         let (theirs, us, why) = both(&r);
-        match &theirs {
-            Outcome::Plan(p) => { *n.entry("PLANS".into()).or_default() += 1; shape(p, &r, &mut n); }
-            Outcome::Nothing => *n.entry("NOTHING".into()).or_default() += 1,
-            Outcome::Refused(k) => { *n.entry(format!("REFUSED {k:02}")).or_default() += 1; if let Some(w) = clones::whose(&r, *k) { *n.entry(format!("refused {k:02}: {w}")).or_default() += 1; } }
-            Outcome::Panicked(m) => *n.entry(format!("PANICKED {m}, here {}", text::outcome(&us).trim_end())).or_default() += 1,
-        }
+        *n.entry(branches::kind_beside(&theirs, &us)).or_default() += 1;
+        branches::met(&theirs, &r, |b| *n.entry(b.to_string()).or_default() += 1);
         if let Some(why) = why {
             diffs += 1;
             if shown < 5 {

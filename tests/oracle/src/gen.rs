@@ -359,3 +359,9 @@ pub fn places(g: &mut Rng, r: &Request, wanted: &[u64]) -> Vec<u64> {
     }
     v
 }
+/// Chooses the places of a punch or fallocate; the Rust says how many it wants.
+pub fn choose_places(g: &mut Rng, r: &mut Request) {
+    if matches!(r.op, Op::Clone(..)) { return; }
+    let (_, wanted) = crate::oracle::run(r);
+    r.facts.places = Some(places(g, r, &wanted));
+}

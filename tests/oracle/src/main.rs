@@ -1,7 +1,5 @@
-// oracle text: extplan's input to its output, as the Rust plans it. With our side linked (cfg ours): oracle fuzz SEED COUNT
-// compares the two on random well-kept lists, oracle bytes SEED COUNT on broken bytes; a last word `fallocate` or `clone`
-// says what the requests are, else they are punches. oracle large SEED COUNT makes punches and fallocates, or clones, on
-// lists about 65,536 records long.
+// The Rust as extplan (`src/extplan.rs`), random inputs for it (`src/texts.rs`) and, with our side linked (cfg ours), both compared on
+// bytes (`src/fuzz.rs`, `src/broken.rs`). README.md says how each is called.
 mod stubs;
 pub use stubs::*;
 #[path = "../sources/clone.rs"]
@@ -15,38 +13,50 @@ mod fallocate;
 mod write;
 #[path = "../sources/regular_extent_item.rs"]
 mod cow_write;
-#[cfg_attr(not(ours), allow(dead_code))]
 mod oracle;
-#[cfg_attr(not(ours), allow(dead_code))]
+mod lent;
 mod text;
-mod read;
+mod form;
+mod extplan;
+mod branches;
 #[cfg_attr(not(ours), allow(dead_code))]
 mod gen;
 #[cfg_attr(not(ours), allow(dead_code))]
 mod clones;
+mod broken;
+mod texts;
 #[cfg(ours)]
 mod ours;
 #[cfg(ours)]
 mod fuzz;
-#[cfg(ours)]
-mod broken;
+
+const USE: &str = "oracle extplan|text <INPUT | gen|sample SEED COUNT | through PROGRAM <INPUTS | compare ANSWERS [counts] <INPUTS
+oracle fuzz|bytes SEED COUNT [fallocate|clone] | large SEED COUNT [clone]   (built with libffi.a)";
 fn main() {
+    std::panic::set_hook(Box::new(|_| {}));
     let a: Vec<String> = std::env::args().collect();
+    let word = |i: usize| a.get(i).map_or("", |s| s.as_str());
+    let number = |i: usize| word(i).parse::<u64>().unwrap_or_else(|_| { eprintln!("{USE}"); std::process::exit(2) });
     #[cfg(ours)]
-    let (make, large) = match a.get(4).map(|s| s.as_str()) {
-        None => (gen::punch as fn(&mut gen::Rng) -> oracle::Request, gen::large as fn(&mut gen::Rng) -> oracle::Request),
-        Some("fallocate") => (gen::fallocate as _, gen::large as _),
-        Some("clone") => (clones::clone as _, clones::large as _),
-        Some(w) => panic!("no requests of {w}"),
+    let (make, large) = match word(4) {
+        "" => (gen::punch as fn(&mut gen::Rng) -> oracle::Request, gen::large as fn(&mut gen::Rng) -> oracle::Request),
+        "fallocate" => (gen::fallocate as _, gen::large as _),
+        "clone" => (clones::clone as _, clones::large as _),
+        w => { eprintln!("no requests of {w}"); std::process::exit(2) }
     };
-    match a.get(1).map(|s| s.as_str()) {
+    match word(1) {
         #[cfg(ours)]
-        Some("fuzz") => fuzz::fuzz(make, a[2].parse().unwrap(), a[3].parse().unwrap()),
+        "fuzz" => fuzz::fuzz(make, number(2), number(3)),
         #[cfg(ours)]
-        Some("large") => fuzz::fuzz(large, a[2].parse().unwrap(), a[3].parse().unwrap()),
+        "large" => fuzz::fuzz(large, number(2), number(3)),
         #[cfg(ours)]
-        Some("bytes") => broken::fuzz(make, a[2].parse().unwrap(), a[3].parse().unwrap()),
-        Some("text") => read::run(),
-        _ => eprintln!("oracle fuzz|bytes SEED COUNT [fallocate|clone] | oracle large SEED COUNT [clone] | oracle text <INPUT (requests parted by a line ---)"),
+        "bytes" => broken::fuzz(make, number(2), number(3)),
+        "extplan" => extplan::one(),
+        "text" => extplan::text(),
+        "through" => extplan::through(word(2)),
+        "compare" => if !extplan::compare(word(2), word(3) == "counts") { std::process::exit(1) },
+        "gen" => texts::print(number(2), number(3)),
+        "sample" => texts::sample(number(2), number(3)),
+        _ => { eprintln!("{USE}"); std::process::exit(2) }
     }
 }

@@ -1,5 +1,6 @@
 // Our side: the proved operations, linked from libffi.a (crate `ffi`: numbers and slices in, a byte and nine numbers out).
-use crate::oracle::{Op, Outcome, Plan, Request};
+use crate::lent::Lent;
+use crate::oracle::{Op, Outcome, Plan};
 extern "C" {
     fn zag_punch(
         sector: u64, total: u64, generation: u64, snapshot: u64, number: u64, size: u64, nodatacow: bool, offset: u64, length: u64,
@@ -22,34 +23,6 @@ extern "C" {
         releases: *mut u64, releases_n: u64,
         answer: *mut u64, answer_n: u64,
     ) -> u8;
-}
-pub fn list_bytes(ino: u64, items: &[(u64, Vec<u8>)]) -> Vec<u8> {
-    let mut v = Vec::with_capacity(items.len() * 70);
-    for (k, d) in items { v.extend(ino.to_le_bytes()); v.push(108); v.extend(k.to_le_bytes()); v.extend(d); }
-    v
-}
-/// What is lent, but for outputs.
-#[derive(Clone)]
-pub struct Lent {
-    pub sector: u64, pub total: u64, pub generation: u64, pub snapshot: u64, pub ino: u64, pub size: u64, pub nodatacow: bool, pub op: Op,
-    pub list: Vec<u8>, pub shared: Vec<u8>, pub table: Vec<u64>, pub places: Vec<u64>,
-    /// a clone's source; with `own` it must not be looked at
-    pub own: bool, pub source_ino: u64, pub source_size: u64, pub source: Vec<u8>,
-}
-impl Lent {
-    pub fn new(r: &Request) -> Lent {
-        let f = &r.facts.files[0];
-        let own = r.facts.files.len() == 1;
-        let (source_ino, source_size, source) = match r.facts.files.get(1) {
-            Some(s) => (s.ino, s.size, list_bytes(s.ino, &s.items)),
-            None => (f.ino ^ (r.total & 1), u64::MAX, vec![0xee; (r.total % 200) as usize]),
-        };
-        Lent {
-            sector: r.sector, total: r.total, generation: r.facts.generation, snapshot: r.facts.snapshot, ino: f.ino, size: f.size, nodatacow: f.nodatacow, op: r.op,
-            list: list_bytes(f.ino, &f.items), shared: f.shared.clone(), table: r.facts.rows.iter().flatten().copied().collect(), places: r.facts.places.clone().unwrap_or_default(),
-            own, source_ino, source_size, source,
-        }
-    }
 }
 const E: u8 = 0xa5;
 const W: u64 = 0xa5a5_5a5a_1234_4321;
