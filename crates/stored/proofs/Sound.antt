@@ -1,8 +1,8 @@
 -- The numbers that are read fit their widths, so that a record is read again as it was. Assumes nothing.
-use mathlib.Core.Path.{_≡_, refl, ap₂, _∙_}
+use mathlib.Core.Path.{_≡_, refl, ap₂}
 use mathlib.Core.Bool.{Bool, true, false, cond, _&&_, not}
 use mathlib.Core.List.{List, [], _∷_, _++_, flatMap}
-use Prim.Native.Nat.{ℕ, zero, suc, _+_, _*_, _/_, _^_, _<_}
+use Prim.Native.Nat.{ℕ, zero, suc, _+_, _/_, _^_, _<_}
 use native.Mathlib.Omega.{arith}
 use native.Mathlib.Nat.{mul-div-cancel}
 use lib.Dec.{eqb}
@@ -13,7 +13,7 @@ use Rattle.endian.specs.Le.{room}
 use Rattle.records.specs.Records.{chunks, records}
 use Rattle.records.specs.Select.{only}
 use Rattle.records.proofs.Tests.{both-left}
-use Rattle.item.specs.Items.{Fields, Sound}
+use Rattle.item.specs.Items.{Sound}
 use Rattle.lines.proofs.Laws.{length-flat}
 use Rattle.taking.specs.declared.Read.{Read}
 use Rattle.request.specs.declared.File.{File}

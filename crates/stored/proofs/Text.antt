@@ -1,15 +1,13 @@
 -- How much an input of at most 65,536 bytes says, and that its numbers fit. Assumes nothing.
-use mathlib.Core.Path.{_≡_, refl}
+use mathlib.Core.Path.{_≡_}
 use mathlib.Core.Bool.{Bool, true, false, cond}
 use mathlib.Core.List.{List, [], _∷_}
-use Prim.Native.Nat.{ℕ, _+_, _*_, _^_, _<_, _≤_}
+use Prim.Native.Nat.{ℕ, _+_, _^_, _<_, _≤_}
 use native.Mathlib.Omega.{arith}
 use lib.Dec.{eqb}
 use lib.ListN.{length, getD}
 use Rattle.item.specs.Items.{Sound}
-use Rattle.forms.specs.Forms.{readLine}
 use Rattle.forms.proofs.Sound.{read-sound, value-within, line-long}
-use Rattle.taking.specs.Run.{Reading}
 use Rattle.reading.specs.Split.{onto, lines}
 use Rattle.reading.specs.Input.{kindOf, valuesOf, readInput}
 use Rattle.stored.specs.Held.{Most}
