@@ -114,3 +114,7 @@ held s b r b′ h room st =
       table = table-held (x .rows) (b .table) (b′ .table) _ (sym rc) (most .rows) (room .table) (st .table);
       places = places-held (x .places) (b .places) (b′ .places) (x .numbers .places) (sym pc) (omega arith) (st .places);
     })
+
+-- the counts, for those who index by them
+pub read-most : (s : List ℕ) (b : Buffers) (r : Read) (b′ : Buffers) → length s ≤ 65536 → Stored (readInput s) b r b′ → Most r
+read-most s b r b′ h st = rw (st .numbers) (input-most s h)
