@@ -7,8 +7,8 @@ use words::after;
 use words::starts_at;
 ghost use mathlib.Core.Path.{_≡_};
 ghost use lib.ListN.{drop};
-ghost use Rattle.forms.specs.Forms.{shapes, readBy, readLine};
-ghost use Rattle.forms.specs.Raw.{opened, unread, finished, Says, Opens, readShape};
+ghost use Rattle.forms.specs.Forms.{shapes, readBy, readLine, Says};
+ghost use Rattle.forms.specs.Raw.{opened, unread, finished, Opens, readShape};
 
 // A line that was read: which of the eight shapes it has, 0 for none, and its numbers, filled up with zeros.
 pub struct Form {
