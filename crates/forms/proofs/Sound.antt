@@ -16,7 +16,7 @@ use Rattle.parts.specs.Parts.{Part, next, word, numbers, end, filled}
 use Rattle.parts.specs.Fields.{fields}
 use Rattle.parts.proofs.Limits.{Within, within-length, within-at, Gives, AllMissing, limitsOf, span, reads-next, reads-word, reads-numbers, reads-fields, reads-end}
 use Rattle.forms.specs.Forms.{Shape, shapes, most, opening, whole, Line, lineOf, unreadable, readBy, readLine}
-use Rattle.forms.specs.Raw.{rowOf}
+use Rattle.forms.specs.Raw.{shapeAt}
 
 -- the limits of a shape's numbers, and the fewest bytes of such a line
 abbrev pub limits : Shape → List ℕ
@@ -28,11 +28,11 @@ shortest h = length (opening (h .name)) + (span (h .limits) + 1)
 -- the same by kind: the greatest values, filled up with zeros, and the fewest bytes. Kind 0 has none.
 abbrev pub greatest : ℕ → List ℕ
 greatest zero = filled []
-greatest (suc n) = filled (limits (rowOf n))
+greatest (suc n) = filled (limits (shapeAt n))
 
 abbrev pub least : ℕ → ℕ
 least zero = 0
-least (suc n) = shortest (rowOf n)
+least (suc n) = shortest (shapeAt n)
 
 pub record Sound (s : List ℕ) (l : Line) : Type 0 where
   pub known : l .kind ≤ 8
@@ -121,3 +121,37 @@ value-within s k i e = rw (← e) (read-sound s .within i)
 
 pub line-long : (s : List ℕ) (k : ℕ) → readLine s .kind ≡ k → least k ≤ length s
 line-long s k e = rw (← e) (read-sound s .long)
+
+-- what these say of an item, of the flags of a file and a fallocate, and of the length of lines that come often
+pub record ItemSmall (vs : List ℕ) : Type 0 where
+  pub kind : getD vs 1 0 ≤ 255
+  pub compression : getD vs 8 0 ≤ 255
+  pub encryption : getD vs 9 0 ≤ 255
+  pub other : getD vs 10 0 ≤ 65535
+  pub shared : getD vs 11 0 ≤ 255
+
+module _ (s : List ℕ) where
+  pub item-small : readLine s .kind ≡ 3 → ItemSmall (readLine s .values)
+  item-small e =
+      record {
+        kind = value-within s 3 1 e;
+        compression = value-within s 3 8 e;
+        encryption = value-within s 3 9 e;
+        other = value-within s 3 10 e;
+        shared = value-within s 3 11 e;
+      }
+
+  pub cow-small : readLine s .kind ≡ 2 → getD (readLine s .values) 2 0 ≤ 1
+  cow-small = value-within s 2 2
+
+  pub keep-small : readLine s .kind ≡ 7 → getD (readLine s .values) 2 0 ≤ 1
+  keep-small = value-within s 7 2
+
+  pub item-long : readLine s .kind ≡ 3 → 6 ≤ length s
+  item-long = line-long s 3
+
+  pub extent-long : readLine s .kind ≡ 4 → 8 ≤ length s
+  extent-long = line-long s 4
+
+  pub place-long : readLine s .kind ≡ 5 → 9 ≤ length s
+  place-long = line-long s 5

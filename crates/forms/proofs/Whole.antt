@@ -17,8 +17,8 @@ use Rattle.parts.specs.Fields.{Field, fieldOpening, fields}
 use Rattle.parts.specs.Raw.{numberSteps, fieldStep, fieldSteps}
 use Rattle.parts.specs.declared.Reading.{Reading}
 use Rattle.parts.proofs.Does.{Lost, Holds, After, Does, does-next, does-numbers, does-fields, total, AllZeroed}
-use Rattle.forms.specs.Forms.{Shape, opening, whole, Line, lineOf, unreadable, readBy}
-use Rattle.forms.specs.Raw.{unread, opened, finished, Says}
+use Rattle.forms.specs.Forms.{Shape, opening, whole, Line, lineOf, unreadable, readBy, Says}
+use Rattle.forms.specs.Raw.{unread, opened, finished}
 use Rattle.forms.specs.declared.Form.{Form}
 
 module _ (line : List ℕ) (kind : ℕ) where

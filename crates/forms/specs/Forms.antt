@@ -2,12 +2,14 @@
 use mathlib.Core.Bool.{cond}
 use mathlib.Core.List.{List, [], _∷_, _++_}
 use mathlib.Core.Option.{Option, none, some}
+use mathlib.Core.Path.{_≡_}
 use Prim.Native.Nat.{ℕ, _-_, _^_}
 use Prim.Native.String.{String}
 use lib.ListN.{length, drop}
 use Rattle.words.specs.Words.{bytes, starts}
 use Rattle.parts.specs.Parts.{Part, Reader, next, word, numbers, end, filled}
 use Rattle.parts.specs.Fields.{Field, one, two, fields}
+use Rattle.forms.specs.declared.Form.{Form}
 
 -- A line: its number among the shapes, its word, the limits of numbers that stand right behind the word, and its fields.
 pub record Shape : Type 0 where
@@ -23,12 +25,15 @@ shape kind name limits fields = record { kind = kind; name = name; limits = limi
 abbrev pub most : ℕ
 most = 2 ^ 64 - 1
 
--- the lines that there are, with their fields in the paper's order; of an item all but the first four may be added
+-- The lines of the paper's example, and "other input lines", each with its fields in the paper's order. "`extent` is start
+-- and length, `window` position and length"; "an item may add" the fields behind `window`.
 abbrev pub shapes : List Shape
 shapes =
     shape 1 "volume" [] (one "sector" most ∷ one "total" most ∷ one "generation" most ∷ one "snapshot" most ∷ [])
     ∷ shape 2 "file" [] (one "number" most ∷ one "size" most ∷ one "cow" 1 ∷ [])
-    ∷ shape 3 "item" [] (one "key" most ∷ one "kind" 255 ∷ two "extent" most ∷ two "window" most ∷ one "generation" most ∷ one "ram" most ∷ one "compression" 255 ∷ one "encryption" 255 ∷ one "other" 65535 ∷ one "shared" 255 ∷ [])
+    ∷ shape 3 "item" []
+    (one "key" most ∷ one "kind" 255 ∷ two "extent" most ∷ two "window" most ∷ one "generation" most ∷ one "ram" most
+    ∷ one "compression" 255 ∷ one "encryption" 255 ∷ one "other" 65535 ∷ one "shared" 255 ∷ [])
     ∷ shape 4 "extent" [] (one "at" most ∷ one "len" most ∷ one "refs" most ∷ one "made" most ∷ one "keyed" most ∷ [])
     ∷ shape 5 "place" (most ∷ []) []
     ∷ shape 6 "punch" [] (one "from" most ∷ one "len" most ∷ [])
@@ -63,3 +68,7 @@ readBy (h ∷ hs) s = cond (starts (opening (h .name)) s) (lineOf (h .kind) (who
 
 unfoldable pub readLine : List ℕ → Line
 readLine s = readBy shapes s
+
+-- the form in code is the line that was read
+abbrev pub Says : Form → Line → Type 0
+Says f l = (f .kind ≡ l .kind) × (f .values ≡ l .values)

@@ -25,16 +25,12 @@ module _ (line : List ℕ) where
       (record { kind = kind; values = r .values })
       unread
 
--- the form in code is the line that was read
-abbrev pub Says : Form → Line → Type 0
-Says f l = (f .kind ≡ l .kind) × (f .values ≡ l .values)
-
 -- row n of the table, a line that opens with its word, and what is read of such a line
-abbrev pub rowOf : ℕ → Shape
-rowOf n = getD shapes n (shape 0 "" [] [])
+abbrev pub shapeAt : ℕ → Shape
+shapeAt n = getD shapes n (shape 0 "" [] [])
 
 abbrev pub Opens : ℕ → List ℕ → Type 0
-Opens n s = starts (opening (rowOf n .name)) s ≡ true
+Opens n s = starts (opening (shapeAt n .name)) s ≡ true
 
 abbrev pub readShape : ℕ → List ℕ → Line
-readShape n s = lineOf (rowOf n .kind) (whole (rowOf n) (drop (length (opening (rowOf n .name))) s))
+readShape n s = lineOf (shapeAt n .kind) (whole (shapeAt n) (drop (length (opening (shapeAt n .name))) s))

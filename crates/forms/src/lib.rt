@@ -7,8 +7,8 @@ use words::after;
 use words::starts_at;
 ghost use mathlib.Core.Path.{_≡_};
 ghost use lib.ListN.{drop};
-ghost use Rattle.forms.specs.Forms.{shapes, readBy, readLine};
-ghost use Rattle.forms.specs.Raw.{opened, unread, finished, Says, Opens, readShape};
+ghost use Rattle.forms.specs.Forms.{shapes, readBy, readLine, Says};
+ghost use Rattle.forms.specs.Raw.{opened, unread, finished, Opens, readShape};
 
 // A line that was read: which of the eight shapes it has, 0 for none, and its numbers, filled up with zeros.
 pub struct Form {
@@ -16,7 +16,7 @@ pub struct Form {
     pub values: [u64; 12],
 }
 
-// The greatest u64.
+// The greatest u64: the limit of a number that has no other.
 const MOST: u64 = 18446744073709551615;
 
 // A line behind its word.
@@ -34,7 +34,7 @@ fn unreadable() -> Form
 {
     Form {
         kind: 0,
-        values: [0u64; 12],
+        values: [0; 12],
     }
 }
 
@@ -51,6 +51,8 @@ fn finish(line: &[u8], read: Reading, kind: u8) -> Form
     unreadable()
 }
 
+// The eight shapes, fields in the paper's order: a field has its first place among the values, how many numbers it has, and
+// their limit.
 fn volume_line(line: &[u8]) -> Form
     requires { ⌜ Opens 0 (now line) ⌝ }
     ensures { λ r. ⌜ Says r (readShape 0 (now (line .entry))) ⌝ }

@@ -1,6 +1,6 @@
 -- Computed examples: a text's lines, and what document 01's input says. Assumes nothing.
 use mathlib.Core.Path.{_≡_, refl}
-use mathlib.Core.Bool.{Bool, true, false}
+use mathlib.Core.Bool.{true, false}
 use mathlib.Core.List.{List, [], _∷_}
 use Prim.Native.Nat.{ℕ}
 use Prim.Native.String.{String}
@@ -13,7 +13,7 @@ use Rattle.parts.specs.Fields.{fields}
 use Rattle.forms.specs.Forms.{readBy, readLine}
 use Rattle.taking.specs.Order.{next}
 use Rattle.taking.specs.Taking.{begin, takenTo, taken, fault, itemsIn, sharedIn, rowsIn, placesIn}
-use Rattle.taking.specs.Run.{Reading, after, along, readingOf}
+use Rattle.taking.specs.Run.{after, along, readingOf}
 use Rattle.reading.specs.Split.{onto, lines}
 use Rattle.reading.specs.Input.{readInput}
 

@@ -1,17 +1,17 @@
 -- What was read, counted: a count is the length of its list. Assumes nothing.
 use mathlib.Core.Path.{_≡_, refl, ap, _∙_, sym}
 use mathlib.Core.Bool.{Bool, true, false, cond, _&&_, not}
-use mathlib.Core.List.{List, [], _∷_, _++_}
+use mathlib.Core.List.{List, [], _∷_}
 use Prim.Native.Nat.{ℕ, _+_, _-_, _≤_}
 use native.Mathlib.Omega.{arith}
 use native.Mathlib.Nat.{add-zero, add-assoc}
 use lib.Dec.{eqb}
-use lib.ListN.{length, take, drop, length-append, length-drop}
+use lib.ListN.{length, length-append, length-drop}
 use lib.Seq.{length-take-le}
 use borrow.Author.Tests.{eqb-true}
 use Rattle.taking.specs.declared.Read.{Read}
 use Rattle.taking.specs.Order.{next}
-use Rattle.taking.specs.Taking.{comes, begin, takenTo, taken, itemsIn, sharedIn, rowsIn, placesIn}
+use Rattle.taking.specs.Taking.{begin, takenTo, taken, itemsIn, sharedIn, rowsIn, placesIn}
 use Rattle.taking.specs.Run.{after, along, readingOf}
 use Rattle.storing.proofs.Runs.{stored-more, shared-more, rows-more, places-more}
 

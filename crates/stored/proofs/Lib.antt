@@ -1,3 +1,6 @@
 pub mod Counts
 pub mod Bounds
 pub mod Parts
+pub mod Sound
+pub mod Text
+pub mod Back

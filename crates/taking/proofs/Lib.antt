@@ -1,2 +1,3 @@
 pub mod Laws
 pub mod Examples
+pub mod Faults

@@ -1,17 +1,14 @@
 -- What one line of an input adds to what was read before it (document 01, "extplan").
 use mathlib.Core.Bool.{Bool, true, false, cond, _&&_, not}
 use mathlib.Core.List.{List, [], _∷_}
-use mathlib.Core.Path.{_≡_}
-use Prim.Native.Nat.{ℕ, _+_, _≤_}
-use lib.Dec.{eqb, leb}
+use Prim.Native.Nat.{ℕ, _+_}
+use lib.Dec.{eqb}
 use lib.ListN.{getD}
-use Rattle.endian.specs.Le.{enc}
 use Rattle.records.specs.Select.{only}
-use Rattle.item.specs.Items.{Fields, encode}
+use Rattle.item.specs.Items.{Fields}
 use Rattle.table.specs.declared.Row.{Row}
 use Rattle.request.specs.declared.Volume.{Volume}
 use Rattle.request.specs.declared.File.{File}
-use Rattle.lines.specs.Lines.{lay}
 use Rattle.taking.specs.declared.Asked.{Asked}
 use Rattle.taking.specs.declared.Read.{Read}
 use Rattle.taking.specs.Order.{next}

@@ -3,7 +3,7 @@ use borrow.Author.Tests.{leb-true}
 use native.Mathlib.Omega.{arith}
 use mathlib.Core.List.{[], _∷_}
 use mathlib.Core.Path.{refl}
-use Rattle.forms.specs.Raw.{rowOf}
+use Rattle.forms.specs.Raw.{shapeAt}
 use Rattle.parts.specs.Raw.{numberSteps}
 use Rattle.forms.proofs.Whole.{line-said}
 use Rattle.forms.proofs.item_line.Statement.{statement}
@@ -80,7 +80,7 @@ finish-requires c κs = tt
 
 returns : tie.Need-returns
 unfolding numberSteps
-returns c = let line = c .before .before .before .before .before .before .before .before .before .before .before .before .before .before .before .before .before .before .before .before .before .before .before .before .args .line .now in line-said line (rowOf 2) (record { zeroed = (refl, (refl, (refl, (refl, (refl, (refl, (refl, (refl, (refl, (refl, tt)))))))))); room = omega arith }) (c .before .before .before .before .before .before .before .before .before .before .before .before .before .before .before .before .before .before .before .before .before .before .before .before .pre) _ _ (c .before .before .before .before .before .before .before .before .before .before .before .before .before .before .before .before .before .before .before .field .result ∷ c .before .before .before .before .before .before .before .before .before .before .before .before .before .before .before .before .before .field2 .result ∷ c .before .before .before .before .before .before .before .before .before .before .before .before .before .before .before .field3 .result ∷ c .before .before .before .before .before .before .before .before .before .before .before .before .before .field4 .result ∷ c .before .before .before .before .before .before .before .before .before .before .before .field5 .result ∷ c .before .before .before .before .before .before .before .before .before .field6 .result ∷ c .before .before .before .before .before .before .before .field7 .result ∷ c .before .before .before .before .before .field8 .result ∷ c .before .before .before .field9 .result ∷ c .before .field10 .result ∷ []) _ (c .before .before .before .before .before .before .before .before .before .before .before .before .before .before .before .before .before .before .before .before .before .«open» .ensures) refl (c .before .before .before .before .before .before .before .before .before .before .before .before .before .before .before .before .before .before .before .field .ensures, (c .before .before .before .before .before .before .before .before .before .before .before .before .before .before .before .before .before .field2 .ensures, (c .before .before .before .before .before .before .before .before .before .before .before .before .before .before .before .field3 .ensures, (c .before .before .before .before .before .before .before .before .before .before .before .before .before .field4 .ensures, (c .before .before .before .before .before .before .before .before .before .before .before .field5 .ensures, (c .before .before .before .before .before .before .before .before .before .field6 .ensures, (c .before .before .before .before .before .before .before .field7 .ensures, (c .before .before .before .before .before .field8 .ensures, (c .before .before .before .field9 .ensures, (c .before .field10 .ensures, tt)))))))))) (c .finish .ensures)
+returns c = let line = c .before .before .before .before .before .before .before .before .before .before .before .before .before .before .before .before .before .before .before .before .before .before .before .before .args .line .now in line-said line (shapeAt 2) (record { zeroed = (refl, (refl, (refl, (refl, (refl, (refl, (refl, (refl, (refl, (refl, tt)))))))))); room = omega arith }) (c .before .before .before .before .before .before .before .before .before .before .before .before .before .before .before .before .before .before .before .before .before .before .before .before .pre) _ _ (c .before .before .before .before .before .before .before .before .before .before .before .before .before .before .before .before .before .before .before .field .result ∷ c .before .before .before .before .before .before .before .before .before .before .before .before .before .before .before .before .before .field2 .result ∷ c .before .before .before .before .before .before .before .before .before .before .before .before .before .before .before .field3 .result ∷ c .before .before .before .before .before .before .before .before .before .before .before .before .before .field4 .result ∷ c .before .before .before .before .before .before .before .before .before .before .before .field5 .result ∷ c .before .before .before .before .before .before .before .before .before .field6 .result ∷ c .before .before .before .before .before .before .before .field7 .result ∷ c .before .before .before .before .before .field8 .result ∷ c .before .before .before .field9 .result ∷ c .before .field10 .result ∷ []) _ (c .before .before .before .before .before .before .before .before .before .before .before .before .before .before .before .before .before .before .before .before .before .«open» .ensures) refl (c .before .before .before .before .before .before .before .before .before .before .before .before .before .before .before .before .before .before .before .field .ensures, (c .before .before .before .before .before .before .before .before .before .before .before .before .before .before .before .before .before .field2 .ensures, (c .before .before .before .before .before .before .before .before .before .before .before .before .before .before .before .field3 .ensures, (c .before .before .before .before .before .before .before .before .before .before .before .before .before .field4 .ensures, (c .before .before .before .before .before .before .before .before .before .before .before .field5 .ensures, (c .before .before .before .before .before .before .before .before .before .field6 .ensures, (c .before .before .before .before .before .before .before .field7 .ensures, (c .before .before .before .before .before .field8 .ensures, (c .before .before .before .field9 .ensures, (c .before .field10 .ensures, tt)))))))))) (c .finish .ensures)
 
 pub item-line-spec : {M : Type 1} → statement M
 item-line-spec =

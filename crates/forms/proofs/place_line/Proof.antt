@@ -3,7 +3,7 @@ use borrow.Author.Tests.{leb-true}
 use native.Mathlib.Omega.{arith}
 use mathlib.Core.List.{[], _∷_}
 use mathlib.Core.Path.{refl}
-use Rattle.forms.specs.Raw.{rowOf}
+use Rattle.forms.specs.Raw.{shapeAt}
 use Rattle.parts.specs.Raw.{numberSteps}
 use Rattle.forms.proofs.Whole.{line-said}
 use Rattle.forms.proofs.place_line.Statement.{statement}
@@ -23,7 +23,7 @@ finish-requires c κs = tt
 
 returns : tie.Need-returns
 unfolding numberSteps
-returns c = let line = c .before .before .before .before .before .args .line .now in line-said line (rowOf 4) (record { zeroed = tt; room = omega arith }) (c .before .before .before .before .before .pre) _ _ ([]) _ (c .before .before .«open» .ensures) (c .before .numbers .ensures) tt (c .finish .ensures)
+returns c = let line = c .before .before .before .before .before .args .line .now in line-said line (shapeAt 4) (record { zeroed = tt; room = omega arith }) (c .before .before .before .before .before .pre) _ _ ([]) _ (c .before .before .«open» .ensures) (c .before .numbers .ensures) tt (c .finish .ensures)
 
 pub place-line-spec : {M : Type 1} → statement M
 place-line-spec =

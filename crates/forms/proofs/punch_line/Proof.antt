@@ -3,7 +3,7 @@ use borrow.Author.Tests.{leb-true}
 use native.Mathlib.Omega.{arith}
 use mathlib.Core.List.{[], _∷_}
 use mathlib.Core.Path.{refl}
-use Rattle.forms.specs.Raw.{rowOf}
+use Rattle.forms.specs.Raw.{shapeAt}
 use Rattle.parts.specs.Raw.{numberSteps}
 use Rattle.forms.proofs.Whole.{line-said}
 use Rattle.forms.proofs.punch_line.Statement.{statement}
@@ -32,7 +32,7 @@ finish-requires c κs = tt
 
 returns : tie.Need-returns
 unfolding numberSteps
-returns c = let line = c .before .before .before .before .before .before .before .before .args .line .now in line-said line (rowOf 5) (record { zeroed = (refl, (refl, tt)); room = omega arith }) (c .before .before .before .before .before .before .before .before .pre) _ _ (c .before .before .before .field .result ∷ c .before .field2 .result ∷ []) _ (c .before .before .before .before .before .«open» .ensures) refl (c .before .before .before .field .ensures, (c .before .field2 .ensures, tt)) (c .finish .ensures)
+returns c = let line = c .before .before .before .before .before .before .before .before .args .line .now in line-said line (shapeAt 5) (record { zeroed = (refl, (refl, tt)); room = omega arith }) (c .before .before .before .before .before .before .before .before .pre) _ _ (c .before .before .before .field .result ∷ c .before .field2 .result ∷ []) _ (c .before .before .before .before .before .«open» .ensures) refl (c .before .before .before .field .ensures, (c .before .field2 .ensures, tt)) (c .finish .ensures)
 
 pub punch-line-spec : {M : Type 1} → statement M
 punch-line-spec =

@@ -1,7 +1,7 @@
 -- The first row whose word opens the line reads it.
 use borrow.Author.Tests.{leb-true}
 use mathlib.Core.Path.{refl, sym, _∙_}
-use Rattle.forms.specs.Raw.{rowOf}
+use Rattle.forms.specs.Raw.{shapeAt}
 use Rattle.forms.specs.Forms.{shapes, readLine}
 use Rattle.forms.proofs.Whole.{said, row-said, row-passed}
 use Rattle.forms.proofs.read_line.Statement.{statement}
@@ -18,7 +18,7 @@ volume-line-requires c κs = sym (c .before .starts-at .ensures) ∙ c .if1 .tak
 
 returns : tie.Need-returns
 unfolding readLine
-returns c = let line = c .before .before .before .before .before .args .line .now in said line _ _ _ (c .volume-line .ensures) (row-said line shapes 0 (rowOf 8) (leb-true 1 8 refl) tt (c .before .before .starts-at .result, c .before .before .starts-at .ensures, c .before .if1 .taken))
+returns c = let line = c .before .before .before .before .before .args .line .now in said line _ _ _ (c .volume-line .ensures) (row-said line shapes 0 (shapeAt 8) (leb-true 1 8 refl) tt (c .before .before .starts-at .result, c .before .before .starts-at .ensures, c .before .if1 .taken))
 
 slice-aggregate-starts-at-2 : tie.Need-slice-aggregate-starts-at-2
 slice-aggregate-starts-at-2 c = refl
@@ -31,7 +31,7 @@ file-line-requires c κs = sym (c .before .starts-at2 .ensures) ∙ c .if2 .take
 
 returns-2 : tie.Need-returns-2
 unfolding readLine
-returns-2 c = let line = c .before .before .before .before .before .before .before .before .args .line .now in said line _ _ _ (c .file-line .ensures) (row-said line shapes 1 (rowOf 8) (leb-true 2 8 refl) ((c .before .before .before .before .before .starts-at .result, c .before .before .before .before .before .starts-at .ensures, c .before .before .before .before .if1 .left), tt) (c .before .before .starts-at2 .result, c .before .before .starts-at2 .ensures, c .before .if2 .taken))
+returns-2 c = let line = c .before .before .before .before .before .before .before .before .args .line .now in said line _ _ _ (c .file-line .ensures) (row-said line shapes 1 (shapeAt 8) (leb-true 2 8 refl) ((c .before .before .before .before .before .starts-at .result, c .before .before .before .before .before .starts-at .ensures, c .before .before .before .before .if1 .left), tt) (c .before .before .starts-at2 .result, c .before .before .starts-at2 .ensures, c .before .if2 .taken))
 
 slice-aggregate-starts-at-3 : tie.Need-slice-aggregate-starts-at-3
 slice-aggregate-starts-at-3 c = refl
@@ -44,7 +44,7 @@ item-line-requires c κs = sym (c .before .starts-at3 .ensures) ∙ c .if3 .take
 
 returns-3 : tie.Need-returns-3
 unfolding readLine
-returns-3 c = let line = c .before .before .before .before .before .before .before .before .before .before .before .args .line .now in said line _ _ _ (c .item-line .ensures) (row-said line shapes 2 (rowOf 8) (leb-true 3 8 refl) ((c .before .before .before .before .before .before .before .before .starts-at .result, c .before .before .before .before .before .before .before .before .starts-at .ensures, c .before .before .before .before .before .before .before .if1 .left), ((c .before .before .before .before .before .starts-at2 .result, c .before .before .before .before .before .starts-at2 .ensures, c .before .before .before .before .if2 .left), tt)) (c .before .before .starts-at3 .result, c .before .before .starts-at3 .ensures, c .before .if3 .taken))
+returns-3 c = let line = c .before .before .before .before .before .before .before .before .before .before .before .args .line .now in said line _ _ _ (c .item-line .ensures) (row-said line shapes 2 (shapeAt 8) (leb-true 3 8 refl) ((c .before .before .before .before .before .before .before .before .starts-at .result, c .before .before .before .before .before .before .before .before .starts-at .ensures, c .before .before .before .before .before .before .before .if1 .left), ((c .before .before .before .before .before .starts-at2 .result, c .before .before .before .before .before .starts-at2 .ensures, c .before .before .before .before .if2 .left), tt)) (c .before .before .starts-at3 .result, c .before .before .starts-at3 .ensures, c .before .if3 .taken))
 
 slice-aggregate-starts-at-4 : tie.Need-slice-aggregate-starts-at-4
 slice-aggregate-starts-at-4 c = refl
@@ -57,7 +57,7 @@ extent-line-requires c κs = sym (c .before .starts-at4 .ensures) ∙ c .if4 .ta
 
 returns-4 : tie.Need-returns-4
 unfolding readLine
-returns-4 c = let line = c .before .before .before .before .before .before .before .before .before .before .before .before .before .before .args .line .now in said line _ _ _ (c .extent-line .ensures) (row-said line shapes 3 (rowOf 8) (leb-true 4 8 refl) ((c .before .before .before .before .before .before .before .before .before .before .before .starts-at .result, c .before .before .before .before .before .before .before .before .before .before .before .starts-at .ensures, c .before .before .before .before .before .before .before .before .before .before .if1 .left), ((c .before .before .before .before .before .before .before .before .starts-at2 .result, c .before .before .before .before .before .before .before .before .starts-at2 .ensures, c .before .before .before .before .before .before .before .if2 .left), ((c .before .before .before .before .before .starts-at3 .result, c .before .before .before .before .before .starts-at3 .ensures, c .before .before .before .before .if3 .left), tt))) (c .before .before .starts-at4 .result, c .before .before .starts-at4 .ensures, c .before .if4 .taken))
+returns-4 c = let line = c .before .before .before .before .before .before .before .before .before .before .before .before .before .before .args .line .now in said line _ _ _ (c .extent-line .ensures) (row-said line shapes 3 (shapeAt 8) (leb-true 4 8 refl) ((c .before .before .before .before .before .before .before .before .before .before .before .starts-at .result, c .before .before .before .before .before .before .before .before .before .before .before .starts-at .ensures, c .before .before .before .before .before .before .before .before .before .before .if1 .left), ((c .before .before .before .before .before .before .before .before .starts-at2 .result, c .before .before .before .before .before .before .before .before .starts-at2 .ensures, c .before .before .before .before .before .before .before .if2 .left), ((c .before .before .before .before .before .starts-at3 .result, c .before .before .before .before .before .starts-at3 .ensures, c .before .before .before .before .if3 .left), tt))) (c .before .before .starts-at4 .result, c .before .before .starts-at4 .ensures, c .before .if4 .taken))
 
 request-line-requires : tie.Need-request-line-requires
 request-line-requires c κs = tt

@@ -1,5 +1,5 @@
 use Rattle.taking.specs.Taking.{fault}
-use borrow.Author.Tests.{eq-eqb, ne-eqb}
+use borrow.Author.Tests.{ne-eqb}
 use mathlib.Core.Path.{refl}
 use Rattle.taking.proofs.fault.Statement.{statement}
 use Rattle.taking.proofs.fault.Tie as tie
