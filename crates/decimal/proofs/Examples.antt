@@ -1,6 +1,6 @@
 -- Computed examples: what is a number, and how far it goes. Assumes nothing.
 use mathlib.Core.Path.{_≡_, refl}
-use mathlib.Core.Bool.{Bool, true, false, cond}
+use mathlib.Core.Bool.{cond}
 use mathlib.Core.List.{List, [], _∷_, map}
 use Prim.Native.Nat.{ℕ, _-_, _^_}
 use Prim.Native.String.{String}

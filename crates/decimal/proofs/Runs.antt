@@ -1,6 +1,6 @@
 -- The laws of digits read one by one. Assumes nothing.
 use mathlib.Core.Path.{_≡_, refl, ap, sym, _∙_}
-use mathlib.Core.Bool.{Bool, true, false, cond, _&&_, not, and-false}
+use mathlib.Core.Bool.{Bool, true, false, cond, not, and-false}
 use mathlib.Core.List.{List, [], _∷_}
 use Prim.Native.Nat.{ℕ, zero, suc, _+_, _*_, _-_, _/_, _^_, _<_, _≤_}
 use native.Mathlib.Numerals.{add-one}
@@ -11,9 +11,8 @@ use lib.ListN.{length, drop, getD, drop-of-length-le}
 use lib.Seq.{drop-cons, getD-drop}
 use borrow.Author.Tests.{lt-ltb, le-ltb, le-leb, lt-leb, leb-true, leb-false}
 use Rattle.records.proofs.Tests.{leb-sub, both-left}
-use Rattle.decimal.specs.Decimal.{isDigit, digits, pushed, value, plain, sound}
+use Rattle.decimal.specs.Decimal.{isDigit, digits, pushed, value, plain}
 use Rattle.decimal.specs.Reading.{noNumber, numberAt, Begun, Ended}
-use Rattle.decimal.specs.declared.Number.{Number}
 
 -- what one digit more is, asked without the sum
 pub within : (v e limit : ℕ) → v ≤ limit / 10 → leb e (limit - v * 10) ≡ leb (v * 10 + e) limit

@@ -1,7 +1,6 @@
 // A decimal number read at a place of a text, with a limit.
 use records::both;
 ghost use mathlib.Core.Path.{_≡_};
-ghost use mathlib.Core.Bool.{true};
 ghost use Prim.Native.Nat.{_+_, _≤_, _<_, _^_};
 ghost use lib.Dec.{leb};
 ghost use lib.ListN.{length, drop};

@@ -8,7 +8,7 @@ use Rattle.decimal.specs.Decimal.{digits, value, plain}
 use Rattle.words.specs.Words.{bytes, starts}
 use Rattle.parts.specs.Parts.{more, into, numbers, filled}
 use Rattle.parts.specs.Fields.{fields}
-use Rattle.forms.specs.Forms.{Line, readBy, readLine}
+use Rattle.forms.specs.Forms.{readBy, readLine}
 use Rattle.forms.proofs.Sound.{greatest, least}
 
 abbrev read : String → List ℕ

@@ -1,9 +1,9 @@
 -- What every line that was read is like, for those who go on with it. Assumes nothing.
-use mathlib.Core.Path.{_≡_, refl, ap, sym, _∙_}
+use mathlib.Core.Path.{_≡_, refl, _∙_}
 use mathlib.Core.Bool.{Bool, true, false, cond}
 use mathlib.Core.List.{List, [], _∷_, _++_, append-nil}
 use mathlib.Core.Option.{Option, none, some}
-use Prim.Native.Nat.{ℕ, zero, suc, _+_, _-_, _^_, _<_, _≤_}
+use Prim.Native.Nat.{ℕ, zero, suc, _+_, _-_, _≤_}
 use native.Mathlib.Omega.{arith}
 use lib.Dec.{leb}
 use lib.ListN.{length, drop, getD, replicate, length-append, length-replicate, length-drop}
@@ -12,7 +12,7 @@ use Rattle.records.specs.Stages.{every}
 use Rattle.records.proofs.Tests.{both-left, both-right}
 use Rattle.words.specs.Words.{bytes, starts}
 use Rattle.words.proofs.Starts.{starts-room}
-use Rattle.parts.specs.Parts.{Part, next, word, numbers, end, filled}
+use Rattle.parts.specs.Parts.{Part, word, numbers, end, filled}
 use Rattle.parts.specs.Fields.{fields}
 use Rattle.parts.proofs.Limits.{Within, within-length, within-at, Gives, AllMissing, limitsOf, span, reads-next, reads-word, reads-numbers, reads-fields, reads-end}
 use Rattle.forms.specs.Forms.{Shape, shapes, most, opening, whole, Line, lineOf, unreadable, readBy, readLine}

@@ -1,7 +1,7 @@
 -- A whole line: the steps of the code read what the definition reads. Assumes nothing.
-use mathlib.Core.Path.{_≡_, refl, ap, sym, _∙_}
-use mathlib.Core.Bool.{Bool, true, false, cond, _&&_, and-false}
-use mathlib.Core.List.{List, [], _∷_, _++_, append-nil}
+use mathlib.Core.Path.{_≡_, refl, sym, _∙_}
+use mathlib.Core.Bool.{Bool, true, false, cond, _&&_}
+use mathlib.Core.List.{List, [], _∷_, append-nil}
 use mathlib.Core.Option.{Option, none, some}
 use Prim.Native.Nat.{ℕ, zero, suc, _+_, _-_, _<_, _≤_}
 use native.Mathlib.Nat.{zero-add}
@@ -16,7 +16,7 @@ use Rattle.parts.specs.Parts.{Part, more, into, next, word, numbers, end, fille
 use Rattle.parts.specs.Fields.{Field, fieldOpening, fields}
 use Rattle.parts.specs.Raw.{numberSteps, fieldStep, fieldSteps}
 use Rattle.parts.specs.declared.Reading.{Reading}
-use Rattle.parts.proofs.Does.{Lost, Holds, After, Does, does-next, does-numbers, does-fields, total, AllZeroed}
+use Rattle.parts.proofs.Does.{Lost, Holds, After, does-next, does-numbers, does-fields, total, AllZeroed}
 use Rattle.forms.specs.Forms.{Shape, opening, whole, Line, lineOf, unreadable, readBy, Says}
 use Rattle.forms.specs.Raw.{unread, opened, finished}
 use Rattle.forms.specs.declared.Form.{Form}

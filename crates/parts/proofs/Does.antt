@@ -1,9 +1,9 @@
 -- The steps of the code read what the definitions read. Assumes nothing.
-use mathlib.Core.Path.{_≡_, refl, ap, sym, _∙_, subst}
+use mathlib.Core.Path.{_≡_, refl, ap, _∙_}
 use mathlib.Core.Bool.{Bool, true, false, cond}
 use mathlib.Core.List.{List, [], _∷_, _++_, append-assoc, append-nil}
 use mathlib.Core.Option.{Option, none, some}
-use Prim.Native.Nat.{ℕ, zero, suc, _+_, _-_, _<_, _≤_}
+use Prim.Native.Nat.{ℕ, suc, _+_, _-_, _<_, _≤_}
 use native.Mathlib.Omega.{arith}
 use lib.ListN.{length, drop, set, replicate, length-append, length-replicate, replicate-append-replicate}
 use lib.Seq.{drop-drop, drop-length, set-at}
@@ -12,7 +12,7 @@ use Rattle.decimal.specs.Reading.{numberAt}
 use Rattle.words.specs.Words.{bytes, starts, behind}
 use Rattle.parts.specs.Parts.{Part, Reader, give, more, into, next, word, number, numbers, filled}
 use Rattle.parts.specs.Fields.{Field, fieldOpening, field, fields}
-use Rattle.parts.specs.Raw.{skipped, numberStep, numberSteps, fieldStep, fieldSteps}
+use Rattle.parts.specs.Raw.{skipped, numberSteps, fieldStep, fieldSteps}
 use Rattle.parts.specs.declared.Reading.{Reading}
 
 -- one more number

@@ -1,9 +1,9 @@
 -- What a reader gives: numbers within their limits, of a text that is long enough. Assumes nothing.
-use mathlib.Core.Path.{_≡_, refl, ap, sym, _∙_}
-use mathlib.Core.Bool.{Bool, true, false, cond, _&&_, false≢true}
+use mathlib.Core.Path.{_≡_, refl, ap}
+use mathlib.Core.Bool.{Bool, true, false, cond, false≢true}
 use mathlib.Core.List.{List, [], _∷_, _++_, append-nil}
 use mathlib.Core.Option.{Option, none, some}
-use Prim.Native.Nat.{ℕ, zero, suc, _+_, _-_, _<_, _≤_}
+use Prim.Native.Nat.{ℕ, zero, suc, _+_, _-_, _≤_}
 use native.Mathlib.Omega.{arith}
 use lib.Dec.{eqb, leb}
 use lib.ListN.{length, drop, getD, replicate, length-drop}
@@ -12,7 +12,7 @@ use Rattle.records.proofs.Tests.{both-left, both-right}
 use Rattle.decimal.specs.Decimal.{isDigit, digits, value, plain, sound}
 use Rattle.words.specs.Words.{bytes, starts}
 use Rattle.words.proofs.Starts.{starts-room}
-use Rattle.parts.specs.Parts.{Part, Reader, give, more, into, next, word, number, numbers, end, filled}
+use Rattle.parts.specs.Parts.{Part, Reader, give, more, into, next, word, number, numbers, end}
 use Rattle.parts.specs.Fields.{Field, fieldOpening, field, fields}
 
 -- numbers, each within its limit

@@ -1,8 +1,7 @@
 -- Computed examples: which texts start with a word. Assumes nothing.
 use mathlib.Core.Path.{_≡_, refl}
-use mathlib.Core.Bool.{Bool, true, false, not}
-use mathlib.Core.List.{List, [], _∷_}
-use Prim.Native.Nat.{ℕ}
+use mathlib.Core.Bool.{Bool, true, not}
+use mathlib.Core.List.{[], _∷_}
 use Prim.Native.String.{String}
 use Rattle.records.specs.Stages.{every}
 use Rattle.words.specs.Words.{bytes, starts, behind}

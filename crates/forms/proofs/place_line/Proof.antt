@@ -1,7 +1,7 @@
 -- The line step by step: its word, its number, its end.
 use borrow.Author.Tests.{leb-true}
 use native.Mathlib.Omega.{arith}
-use mathlib.Core.List.{[], _∷_}
+use mathlib.Core.List.{[]}
 use mathlib.Core.Path.{refl}
 use Rattle.forms.specs.Raw.{shapeAt}
 use Rattle.parts.specs.Raw.{numberSteps}
