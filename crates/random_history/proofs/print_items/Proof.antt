@@ -1,0 +1,57 @@
+use Prim.Native.Nat.{_-_}
+use borrow.Author.Needs.{needs}
+use Rattle.random_history.proofs.print_items.Statement.{statement}
+use Rattle.random_history.proofs.print_items.Tie as tie
+
+abbrev Inv-loop : tie.InvT-loop
+Inv-loop s i₀ t4 i = Unit {0}
+
+abbrev μ-loop : tie.MeasureT-loop
+μ-loop s i₀ t4 i = 4 - i
+
+slice-aggregate-text : tie.Need-slice-aggregate-text Inv-loop μ-loop
+slice-aggregate-text c = search needs
+
+text-requires : tie.Need-text-requires Inv-loop μ-loop
+text-requires c κs = search needs
+
+loop-holds : tie.Need-loop-holds Inv-loop μ-loop
+loop-holds c = search needs
+
+slice-aggregate-shown : tie.Need-slice-aggregate-shown Inv-loop μ-loop
+slice-aggregate-shown c = search needs
+
+items-requires : tie.Need-items-requires Inv-loop μ-loop
+items-requires c κs = search needs
+
+shown-requires : tie.Need-shown-requires Inv-loop μ-loop
+shown-requires c κs = search needs
+
+add-i : tie.Need-add-i Inv-loop μ-loop
+add-i c = search needs
+
+loop-less : tie.Need-loop-less Inv-loop μ-loop
+loop-less c = search needs
+
+loop-again : tie.Need-loop-again Inv-loop μ-loop
+loop-again c = search needs
+
+returns : tie.Need-returns Inv-loop μ-loop
+returns c = search needs
+
+pub print-items-spec : {M : Type 1} → statement M
+print-items-spec =
+    tie.close
+    (tie.spec
+    Inv-loop
+    μ-loop
+    slice-aggregate-text
+    text-requires
+    loop-holds
+    slice-aggregate-shown
+    items-requires
+    shown-requires
+    add-i
+    loop-less
+    loop-again
+    returns)
