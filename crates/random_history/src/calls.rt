@@ -12,7 +12,9 @@ use crate::state;
 use records::both;
 use records::pick;
 use request::File;
+use request::Range;
 use request::Volume;
+use spans::Span;
 
 pub const PUNCH: u64 = 0;
 
@@ -143,6 +145,21 @@ pub fn file(x: u64, s: &[u64], f: usize) -> File {
         number: state::file_number(f),
         size: state::size(s, f),
         nodatacow: once_in(x, 44, 8),
+    }
+}
+
+pub fn range(call: Call) -> Range {
+    Range {
+        offset: call.to,
+        length: call.length,
+    }
+}
+
+pub fn span(call: Call) -> Span {
+    Span {
+        from: call.from,
+        to: call.to,
+        length: call.length,
     }
 }
 

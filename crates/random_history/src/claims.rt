@@ -52,6 +52,8 @@ pub const UNCHANGED: u8 = 11;
 
 pub const APPLYING: u8 = 12;
 
+pub const NOTHING: u8 = 13;
+
 // ---- 1 and 2: the changed list and the table are well kept
 
 fn sectors_kept(list: &[u8], sector: u64) -> u8 {
@@ -392,4 +394,27 @@ pub fn want_of_room(f: usize, n: Numbers, old: &[u64], why: u8) -> u8 {
     let rows = plus(state::rows(old) as u64, n.adds as u64);
     let short = either(32 < records, 48 < rows);
     unless(both(why == 27, short), APPLYING)
+}
+
+// ---- 13: there is nothing to do only where a punch's range shows nothing, and where nothing is left to clone
+
+// Whether any sector from `lo` up to `hi` shows something.
+fn shows(map: &[u64], lo: u64, hi: u64) -> bool {
+    let mut i: u64 = 0;
+    while i < 64 {
+        if both(both(lo <= i, i < hi), maps::start_at(map, i) != 0) {
+            return true;
+        }
+        i += 1;
+    }
+    false
+}
+
+pub fn nothing(call: Call, old: &[u64], list: &[u8]) -> u8 {
+    let mut map = [0u64; 192];
+    maps::fill(&mut map, list, state::shift(old));
+    let p = sectors_of(call, old);
+    let clear = both(call.operation == calls::PUNCH, !shows(&map, p.lo, p.hi));
+    let none = both(call.operation == calls::CLONE, meant(call, old) == 0);
+    unless(either(clear, none), NOTHING)
 }

@@ -3,6 +3,7 @@
 use crate::numbers::bump;
 use crate::numbers::get;
 use crate::numbers::index;
+use crate::numbers::minus;
 use crate::numbers::plus;
 use crate::numbers::put;
 use crate::state;
@@ -30,7 +31,7 @@ fn note(ledger: &mut [u64], start: u64, reference: u64, sign: u64) {
 fn note_item(ledger: &mut [u64], item: Item, sign: u64) {
     let start = state::named(item);
     if start != 0 {
-        note(ledger, start, item.reference(), sign);
+        note(ledger, start, minus(item.key, item.position()), sign);
     }
 }
 

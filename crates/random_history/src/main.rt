@@ -12,7 +12,6 @@ mod state;
 mod turns;
 
 use numbers::get;
-use numbers::index;
 use numbers::put;
 use numbers::summed;
 use numbers::summed_bytes;
@@ -21,74 +20,59 @@ fn text(s: &[u8]) {
     io::write_all(1, s);
 }
 
-fn shown(word: &[u8], n: u64) {
+// Numbers on a line, a space before each.
+fn numbers_line(word: &[u8], a: &[u64]) {
     text(word);
-    text(b" ");
-    io::print_decimal(1, n);
-}
-
-// ---- what a round did
-
-fn print_items(s: &[u64]) {
-    text(b" items");
+    let n = a.len();
     let mut i: usize = 0;
-    while i < 4 {
-        shown(b"", state::items(s, i) as u64);
+    while i < n {
+        text(b" ");
+        io::print_decimal(1, get(a, i));
         i += 1;
     }
+    text(b"\n");
 }
 
+// The number of a round, its sector, what it counted, each file's records, the rows, and a sum over all bytes.
 fn print_round(s: &[u64], lists: &[u8], table: &[u64], round: u64) {
-    shown(b"round", round);
-    shown(b" sector", state::sector(s));
-    shown(b" applied", get(s, state::APPLIED));
-    shown(b" without room", get(s, state::NO_ROOM));
-    shown(b" nothing", get(s, state::NOTHINGS));
-    shown(b" refused", get(s, state::REFUSALS));
-    shown(b" taken back", get(s, state::TAKEN_BACK));
-    print_items(s);
-    shown(b" rows", get(s, state::ROWS));
-    shown(b" sum", summed_bytes(lists, summed(table, 1)));
-    text(b"\n");
+    let line = [
+        round,
+        state::sector(s),
+        get(s, state::APPLIED),
+        get(s, state::NO_ROOM),
+        get(s, state::NOTHINGS),
+        get(s, state::REFUSALS),
+        get(s, state::TAKEN_BACK),
+        state::items(s, 0) as u64,
+        state::items(s, 1) as u64,
+        state::items(s, 2) as u64,
+        state::items(s, 3) as u64,
+        get(s, state::ROWS),
+        summed_bytes(lists, summed(table, 1)),
+    ];
+    numbers_line(b"", &line);
 }
 
 fn print_broken(why: u8, round: u64, call: u64) {
-    shown(b"claim", why as u64);
-    shown(b" does not hold: round", round);
-    shown(b" call", call);
-    text(b"\n");
+    numbers_line(
+        b"does not hold: claim, round, call",
+        &[why as u64, round, call],
+    );
 }
 
-// ---- at the end
-
-fn print_refusals(s: &[u64]) {
-    text(b"refused\n");
-    let mut i: usize = 1;
-    while i < 28 {
-        shown(b" ", i as u64);
-        shown(b":", get(s, index(state::BY_NUMBER, i)));
-        text(b"\n");
-        i += 1;
-    }
-}
-
-fn print_lines(s: &[u64]) {
-    shown(b"edits", get(s, state::LINES));
-    shown(b" shares", get(s, state::LINES + 1));
-    shown(b" unrefs", get(s, state::LINES + 2));
-    shown(b" releases", get(s, state::LINES + 3));
-    shown(b" adds", get(s, state::LINES + 4));
-    shown(b" writes", get(s, state::LINES + 5));
-    text(b"\n");
+fn print_end(s: &[u64]) {
+    numbers_line(b"edits shares unrefs releases adds writes", state::lines(s));
+    numbers_line(b"refusals 1 to 27", state::by_number(s));
+    text(b"every claim held\n");
 }
 
 // ---- the history
 
-// A round of 1,000 calls; the number of a claim that does not hold, or 0.
+// A round of 2,000 calls; the number of a claim that does not hold, or 0.
 fn run_round(s: &mut [u64], lists: &mut [u8], table: &mut [u64], round: u64) -> u8 {
     between::begin(lists, s, round);
     let mut i: u64 = 0;
-    while i < 1000 {
+    while i < 2000 {
         let why = turns::turn(s, lists, table);
         if why != 0 {
             print_broken(why, round, i);
@@ -108,9 +92,7 @@ fn run_rounds(s: &mut [u64], lists: &mut [u8], table: &mut [u64]) {
         print_round(s, lists, table, i);
         i += 1;
     }
-    print_refusals(s);
-    print_lines(s);
-    text(b"every claim held\n");
+    print_end(s);
 }
 
 fn main() {
@@ -119,5 +101,6 @@ fn main() {
     let mut s = [0u64; 64];
     put(&mut s, state::SEED, 88172645463325252);
     put(&mut s, state::GENERATION, 7);
+    text(b"round sector applied room nothing refused back items of 4 files rows sum\n");
     run_rounds(&mut s, &mut lists, &mut table);
 }

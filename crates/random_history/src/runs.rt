@@ -12,23 +12,20 @@ use crate::state;
 use apply::Applied;
 use request::Answer;
 use request::Numbers;
-use request::Range;
-use spans::Span;
 
-// Places that are free, but for those whose extents are still there when 127 others were taken: they go round.
+// Places that are free, but for those whose extents are still there when 509 others were taken: they go round.
 fn fill_places(s: &[u64], places: &mut [u64]) {
     let n = places.len();
     let taken = get(s, state::TAKEN);
     let mut i: usize = 0;
     while i < n {
-        let slot = plus(taken, i as u64) % 127;
+        let slot = plus(taken, i as u64) % 509;
         put(places, i, bytes_in(plus(slot, 1), 22));
         i += 1;
     }
 }
 
-// A punch or a fallocate.
-fn range_answer(
+fn punch_answer(
     call: Call,
     x: u64,
     s: &[u64],
@@ -43,46 +40,54 @@ fn range_answer(
     adds: &mut [u64],
     writes: &mut [u64],
 ) -> Answer {
-    let v = calls::volume(x, s);
-    let f = calls::file(x, s, call.file);
-    let r = Range {
-        offset: call.to,
-        length: call.length,
-    };
-    if call.operation == calls::PUNCH {
-        punch::punch_hole(
-            v,
-            f,
-            r,
-            list,
-            shared,
-            table,
-            places,
-            edits,
-            shares,
-            unrefs,
-            releases,
-            adds,
-            writes,
-        )
-    } else {
-        fallocate::fallocate(
-            v,
-            f,
-            r,
-            call.operation == calls::FALLOCATE_KEEP,
-            list,
-            shared,
-            table,
-            places,
-            edits,
-            shares,
-            unrefs,
-            releases,
-            adds,
-            writes,
-        )
-    }
+    punch::punch_hole(
+        calls::volume(x, s),
+        calls::file(x, s, call.file),
+        calls::range(call),
+        list,
+        shared,
+        table,
+        places,
+        edits,
+        shares,
+        unrefs,
+        releases,
+        adds,
+        writes,
+    )
+}
+
+fn fallocate_answer(
+    call: Call,
+    x: u64,
+    s: &[u64],
+    list: &[u8],
+    shared: &[u8],
+    table: &[u64],
+    places: &[u64],
+    edits: &mut [u8],
+    shares: &mut [u64],
+    unrefs: &mut [u64],
+    releases: &mut [u64],
+    adds: &mut [u64],
+    writes: &mut [u64],
+) -> Answer {
+    fallocate::fallocate(
+        calls::volume(x, s),
+        calls::file(x, s, call.file),
+        calls::range(call),
+        call.operation == calls::FALLOCATE_KEEP,
+        list,
+        shared,
+        table,
+        places,
+        edits,
+        shares,
+        unrefs,
+        releases,
+        adds,
+        writes,
+    )
 }
 
 fn clone_answer(
@@ -97,17 +102,12 @@ fn clone_answer(
     unrefs: &mut [u64],
     releases: &mut [u64],
 ) -> Answer {
-    let span = Span {
-        from: call.from,
-        to: call.to,
-        length: call.length,
-    };
     clone::clone_range(
         calls::volume(x, s),
         calls::file(x, s, call.file),
         calls::file(x, s, call.source),
         call.source == call.file,
-        span,
+        calls::span(call),
         state::list(lists, s, call.file),
         shared,
         state::list(lists, s, call.source),
@@ -119,14 +119,15 @@ fn clone_answer(
     )
 }
 
-// The call of the turn x with its first n places lent.
+// The call of the turn x with these places lent.
 fn attempt(
     call: Call,
     x: u64,
-    n: usize,
     s: &[u64],
     lists: &[u8],
+    shared: &[u8],
     table: &[u64],
+    places: &[u64],
     edits: &mut [u8],
     shares: &mut [u64],
     unrefs: &mut [u64],
@@ -134,34 +135,46 @@ fn attempt(
     adds: &mut [u64],
     writes: &mut [u64],
 ) -> Answer {
-    let mut shared = [0u8; 32];
-    put_byte(&mut shared, calls::leaf_record(x), calls::leaf(x));
-    let mut places = [0u64; 12];
-    fill_places(s, &mut places);
-    let lent = lead_bytes(&shared, state::items(s, call.file));
-    let rows = state::table_of(table, s);
     if call.operation == calls::CLONE {
         return clone_answer(
             call,
             x,
             s,
             lists,
-            lent,
-            rows,
+            shared,
+            table,
             edits,
             shares,
             unrefs,
             releases,
         );
     }
-    range_answer(
+    let list = state::list(lists, s, call.file);
+    if call.operation == calls::PUNCH {
+        return punch_answer(
+            call,
+            x,
+            s,
+            list,
+            shared,
+            table,
+            places,
+            edits,
+            shares,
+            unrefs,
+            releases,
+            adds,
+            writes,
+        );
+    }
+    fallocate_answer(
         call,
         x,
         s,
-        state::list(lists, s, call.file),
-        lent,
-        rows,
-        lead(&places, n),
+        list,
+        shared,
+        table,
+        places,
         edits,
         shares,
         unrefs,
@@ -171,13 +184,15 @@ fn attempt(
     )
 }
 
-// The call, with one place more until the number of places, or 12, is right.
-pub fn answer(
+// The call, with one of these 12 places more until their number is right.
+fn attempts(
     call: Call,
     x: u64,
     s: &[u64],
     lists: &[u8],
+    shared: &[u8],
     table: &[u64],
+    places: &[u64],
     edits: &mut [u8],
     shares: &mut [u64],
     unrefs: &mut [u64],
@@ -190,10 +205,11 @@ pub fn answer(
         let a = attempt(
             call,
             x,
-            i,
             s,
             lists,
+            shared,
             table,
+            lead(places, i),
             edits,
             shares,
             unrefs,
@@ -207,6 +223,41 @@ pub fn answer(
         i += 1;
     }
     Answer::Refused(26)
+}
+
+// The call of the turn x, on the volume whose numbers, lists and table these are.
+pub fn answer(
+    call: Call,
+    x: u64,
+    s: &[u64],
+    lists: &[u8],
+    table: &[u64],
+    edits: &mut [u8],
+    shares: &mut [u64],
+    unrefs: &mut [u64],
+    releases: &mut [u64],
+    adds: &mut [u64],
+    writes: &mut [u64],
+) -> Answer {
+    let mut shared = [0u8; 32];
+    let mut places = [0u64; 12];
+    put_byte(&mut shared, calls::leaf_record(x), calls::leaf(x));
+    fill_places(s, &mut places);
+    attempts(
+        call,
+        x,
+        s,
+        lists,
+        lead_bytes(&shared, state::items(s, call.file)),
+        state::table_of(table, s),
+        &places,
+        edits,
+        shares,
+        unrefs,
+        releases,
+        adds,
+        writes,
+    )
 }
 
 // ---- applying

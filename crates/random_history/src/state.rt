@@ -5,6 +5,8 @@ use crate::numbers::get;
 use crate::numbers::index;
 use crate::numbers::put;
 use item::Item;
+use records::either;
+use records::pick;
 
 pub const SEED: usize = 0;
 
@@ -25,6 +27,9 @@ pub const FRESH: usize = 8;
 pub const ROWS: usize = 8;
 
 const ITEMS: usize = 9;
+
+// From here on all numbers are counts.
+pub const COUNTS: usize = 13;
 
 pub const NOTHINGS: usize = 13;
 
@@ -80,6 +85,25 @@ pub fn file_number(f: usize) -> u64 {
     if f < 4 { 257 + (f as u64) } else { 0 }
 }
 
+// A part of the numbers.
+fn part<'a>(s: &'a [u64], from: usize, to: usize) -> &'a [u64] {
+    if s.len() < to {
+        return s;
+    }
+    if to < from {
+        return s;
+    }
+    &s[from..to]
+}
+
+pub fn lines<'a>(s: &'a [u64]) -> &'a [u64] {
+    part(s, LINES, LINES + 6)
+}
+
+pub fn by_number<'a>(s: &'a [u64]) -> &'a [u64] {
+    part(s, BY_NUMBER + 1, BY_NUMBER + 28)
+}
+
 // The first n records of a file.
 fn records_of<'a>(lists: &'a [u8], f: usize, n: usize) -> &'a [u8] {
     if lists.len() < 8960 {
@@ -128,9 +152,6 @@ pub fn item_of(list: &[u8], i: usize) -> Item {
 
 // The extent that an item names; 0 for none.
 pub fn named(item: Item) -> u64 {
-    if lists::is_ranged(item) {
-        item.extent_start()
-    } else {
-        0
-    }
+    let ranged = either(item.kind() == 1, item.kind() == 2);
+    pick(ranged, item.extent_start(), 0)
 }

@@ -10,6 +10,7 @@ use crate::numbers::copy;
 use crate::numbers::copy_bytes;
 use crate::numbers::get;
 use crate::numbers::index;
+use crate::numbers::lead;
 use crate::numbers::put;
 use crate::numbers::put_byte;
 use crate::numbers::stirred;
@@ -242,6 +243,14 @@ fn count_answer(s: &mut [u64], answer: Answer) {
     );
 }
 
+// Claim 13.
+fn nothing_claim(call: Call, answer: Answer, old: &[u64], was: &[u8]) -> u8 {
+    if is_nothing(answer) {
+        return claims::nothing(call, old, state::list(was, old, call.file));
+    }
+    0
+}
+
 // What an answer leads to.
 fn answered(
     call: Call,
@@ -261,7 +270,10 @@ fn answered(
 ) -> u8 {
     if !is_plan(answer) {
         count_answer(s, answer);
-        return claims::unchanged(lists, was, table, rows_were);
+        return first(
+            claims::unchanged(lists, was, table, rows_were),
+            nothing_claim(call, answer, old, was),
+        );
     }
     planned(
         call,
@@ -333,7 +345,7 @@ fn made(
     first(past, why)
 }
 
-// The volume as it was, and a trial counted.
+// The volume as it was; what is counted stays.
 fn take_back(
     s: &mut [u64],
     lists: &mut [u8],
@@ -344,7 +356,7 @@ fn take_back(
 ) {
     copy_bytes(was, lists);
     copy(rows_were, table);
-    copy(old, s);
+    copy(lead(old, state::COUNTS), s);
     bump(s, state::TAKEN_BACK, 1);
 }
 

@@ -9,7 +9,7 @@ abbrev Inv-loop : tie.InvT-loop
 Inv-loop s₀ lists₀ table₀ round i₀ s lists table i = (length s ≡ length s₀) × (length lists ≡ length lists₀) × (length table ≡ length table₀)
 
 abbrev μ-loop : tie.MeasureT-loop
-μ-loop s₀ lists₀ table₀ round i₀ s lists table i = 1000 - i
+μ-loop s₀ lists₀ table₀ round i₀ s lists table i = 2000 - i
 
 begin-requires : tie.Need-begin-requires Inv-loop μ-loop
 begin-requires c κs = search needs

@@ -6,10 +6,10 @@ use Rattle.random_history.proofs.run_rounds.Statement.{statement}
 use Rattle.random_history.proofs.run_rounds.Tie as tie
 
 abbrev Inv-loop : tie.InvT-loop
-Inv-loop s₀ lists₀ table₀ i₀ t5 s lists table i = (length s ≡ length s₀) × (length lists ≡ length lists₀) × (length table ≡ length table₀)
+Inv-loop s₀ lists₀ table₀ i₀ s lists table i = (length s ≡ length s₀) × (length lists ≡ length lists₀) × (length table ≡ length table₀)
 
 abbrev μ-loop : tie.MeasureT-loop
-μ-loop s₀ lists₀ table₀ i₀ t5 s lists table i = 20 - i
+μ-loop s₀ lists₀ table₀ i₀ s lists table i = 20 - i
 
 loop-holds : tie.Need-loop-holds Inv-loop μ-loop
 loop-holds c = search needs
@@ -41,17 +41,8 @@ loop-less c = search needs
 loop-again : tie.Need-loop-again Inv-loop μ-loop
 loop-again c = search needs
 
-print-refusals-requires : tie.Need-print-refusals-requires Inv-loop μ-loop
-print-refusals-requires c κs = search needs
-
-print-lines-requires : tie.Need-print-lines-requires Inv-loop μ-loop
-print-lines-requires c κs = search needs
-
-slice-aggregate-text : tie.Need-slice-aggregate-text Inv-loop μ-loop
-slice-aggregate-text c = search needs
-
-text-requires : tie.Need-text-requires Inv-loop μ-loop
-text-requires c κs = search needs
+print-end-requires : tie.Need-print-end-requires Inv-loop μ-loop
+print-end-requires c κs = search needs
 
 same-length-4 : tie.Need-same-length-4 Inv-loop μ-loop
 same-length-4 c = search needs
@@ -81,10 +72,7 @@ run-rounds-spec =
     add-i
     loop-less
     loop-again
-    print-refusals-requires
-    print-lines-requires
-    slice-aggregate-text
-    text-requires
+    print-end-requires
     same-length-4
     same-length-5
     same-length-6

@@ -2,19 +2,22 @@ use Prim.Native.Nat.{_-_}
 use lib.ListN.{length}
 use mathlib.Core.Path.{_≡_}
 use borrow.Author.Needs.{needs}
-use Rattle.random_history.proofs.runs.answer.Statement.{statement}
-use Rattle.random_history.proofs.runs.answer.Tie as tie
+use Rattle.random_history.proofs.runs.attempts.Statement.{statement}
+use Rattle.random_history.proofs.runs.attempts.Tie as tie
 
 abbrev Inv-loop : tie.InvT-loop
-Inv-loop call x s lists table edits₀ shares₀ unrefs₀ releases₀ adds₀ writes₀ i₀ edits shares unrefs releases adds writes i =
+Inv-loop call x s lists shared table places edits₀ shares₀ unrefs₀ releases₀ adds₀ writes₀ i₀ edits shares unrefs releases adds writes i =
     (length edits ≡ length edits₀) × (length shares ≡ length shares₀) × (length unrefs ≡ length unrefs₀) × (length releases ≡ length releases₀) × (length adds ≡ length adds₀) × (length writes ≡ length writes₀)
 
 abbrev μ-loop : tie.MeasureT-loop
-μ-loop call x s lists table edits₀ shares₀ unrefs₀ releases₀ adds₀ writes₀ i₀ edits shares unrefs releases adds writes i =
+μ-loop call x s lists shared table places edits₀ shares₀ unrefs₀ releases₀ adds₀ writes₀ i₀ edits shares unrefs releases adds writes i =
     12 - i
 
 loop-holds : tie.Need-loop-holds Inv-loop μ-loop
 loop-holds c = search needs
+
+lead-requires : tie.Need-lead-requires Inv-loop μ-loop
+lead-requires c κs = search needs
 
 attempt-requires : tie.Need-attempt-requires Inv-loop μ-loop
 attempt-requires c κs = search needs
@@ -73,13 +76,14 @@ same-length-12 c = search needs
 returns-2 : tie.Need-returns-2 Inv-loop μ-loop
 returns-2 c = search needs
 
-pub answer-spec : {M : Type 1} → statement M
-answer-spec =
+pub attempts-spec : {M : Type 1} → statement M
+attempts-spec =
     tie.close
     (tie.spec
     Inv-loop
     μ-loop
     loop-holds
+    lead-requires
     attempt-requires
     number-of-requires
     same-length
