@@ -50,11 +50,13 @@ fn stretch(x: u64, name: u64, shift: u64, n: u64) -> u64 {
     plus(whole, within(x, plus(name, 1), bytes_in(1, shift)))
 }
 
-// A length, now and then 0.
+// A length: one time in three less than a sector, now and then 0.
 fn some_bytes(x: u64, shift: u64) -> u64 {
-    let n = stretch(x, 23, shift, pick(once_in(x, 26, 8), 64, 7));
+    let sector = bytes_in(1, shift);
+    let many = stretch(x, 23, shift, pick(once_in(x, 26, 8), 64, 7));
+    let n = pick(once_in(x, 29, 3), draw(x, 30, sector), many);
     let none = both(n == 0, !once_in(x, 27, 8));
-    pick(none, bytes_in(1, shift), n)
+    pick(none, sector, n)
 }
 
 // A punch or a fallocate; now and then of a range that ends past 2^63 − 1.
