@@ -1,6 +1,0 @@
-pub mod Counts
-pub mod Bounds
-pub mod Parts
-pub mod Sound
-pub mod Text
-pub mod Back

@@ -1,1 +1,0 @@
-// What the buffers hold once an input was read, and how much: laws of the definitions, without code.
