@@ -98,12 +98,13 @@ fn sectors(x: u64, name: u64, shift: u64, n: u64) -> u64 {
     )
 }
 
-// A clone from a source of this size.
+// A clone from a source of this size; within one file one time in two to where the source ends.
 fn cloned(x: u64, shift: u64, file: usize, source: usize, size: u64) -> Call {
     let from = sectors(x, 36, shift, plus(sectors_in(size, shift), 1));
     let left = minus(size, from);
     let length = fitted_length(x, shift, left);
-    let to = sectors(x, 38, shift, 64);
+    let near = both(file == source, once_in(x, 47, 2));
+    let to = pick(near, plus(from, length), sectors(x, 38, shift, 64));
     let end = plus(to, pick(length == 0, left, length));
     Call {
         operation: CLONE,
@@ -118,7 +119,8 @@ fn cloned(x: u64, shift: u64, file: usize, source: usize, size: u64) -> Call {
 // The call of the turn with this number.
 pub fn next_call(x: u64, s: &[u64]) -> Call {
     let file = draw(x, 10, 4) as usize;
-    let source = draw(x, 11, 4) as usize;
+    let other = draw(x, 11, 4) as usize;
+    let source = if once_in(x, 48, 4) { file } else { other };
     let shift = state::shift(s);
     match draw(x, 12, 8) {
         0 | 1 | 2 => ranged(x, shift, PUNCH, file),
