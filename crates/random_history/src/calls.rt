@@ -133,7 +133,7 @@ pub fn next_call(x: u64, s: &[u64]) -> Call {
 // ---- what the call is lent beside it
 
 // Now and then the last generation, a small volume, or a recent snapshot.
-pub fn volume(x: u64, s: &[u64]) -> Volume {
+fn volume(x: u64, s: &[u64]) -> Volume {
     let generation = get(s, state::GENERATION);
     let recent = minus(generation, draw(x, 40, 16));
     Volume {
@@ -144,7 +144,7 @@ pub fn volume(x: u64, s: &[u64]) -> Volume {
     }
 }
 
-pub fn file(x: u64, s: &[u64], f: usize) -> File {
+fn file(x: u64, s: &[u64], f: usize) -> File {
     File {
         number: state::file_number(f),
         size: state::size(s, f),
@@ -152,18 +152,33 @@ pub fn file(x: u64, s: &[u64], f: usize) -> File {
     }
 }
 
-pub fn range(call: Call) -> Range {
-    Range {
-        offset: call.to,
-        length: call.length,
-    }
+// A call with all that it is lent but slices.
+pub struct Lent {
+    pub operation: u64,
+    pub volume: Volume,
+    pub dst: File,
+    pub src: File,
+    pub own: bool,
+    pub range: Range,
+    pub span: Span,
 }
 
-pub fn span(call: Call) -> Span {
-    Span {
-        from: call.from,
-        to: call.to,
-        length: call.length,
+pub fn all_lent(call: Call, x: u64, s: &[u64]) -> Lent {
+    Lent {
+        operation: call.operation,
+        volume: volume(x, s),
+        dst: file(x, s, call.file),
+        src: file(x, s, call.source),
+        own: call.source == call.file,
+        range: Range {
+            offset: call.to,
+            length: call.length,
+        },
+        span: Span {
+            from: call.from,
+            to: call.to,
+            length: call.length,
+        },
     }
 }
 
