@@ -98,12 +98,13 @@ fn sectors(x: u64, name: u64, shift: u64, n: u64) -> u64 {
     )
 }
 
-// A clone from a source of this size.
+// A clone from a source of this size; within one file one time in two to where the source ends.
 fn cloned(x: u64, shift: u64, file: usize, source: usize, size: u64) -> Call {
     let from = sectors(x, 36, shift, plus(sectors_in(size, shift), 1));
     let left = minus(size, from);
     let length = fitted_length(x, shift, left);
-    let to = sectors(x, 38, shift, 64);
+    let near = both(file == source, once_in(x, 47, 2));
+    let to = pick(near, plus(from, length), sectors(x, 38, shift, 64));
     let end = plus(to, pick(length == 0, left, length));
     Call {
         operation: CLONE,
@@ -118,7 +119,8 @@ fn cloned(x: u64, shift: u64, file: usize, source: usize, size: u64) -> Call {
 // The call of the turn with this number.
 pub fn next_call(x: u64, s: &[u64]) -> Call {
     let file = draw(x, 10, 4) as usize;
-    let source = draw(x, 11, 4) as usize;
+    let other = draw(x, 11, 4) as usize;
+    let source = if once_in(x, 48, 4) { file } else { other };
     let shift = state::shift(s);
     match draw(x, 12, 8) {
         0 | 1 | 2 => ranged(x, shift, PUNCH, file),
@@ -131,7 +133,7 @@ pub fn next_call(x: u64, s: &[u64]) -> Call {
 // ---- what the call is lent beside it
 
 // Now and then the last generation, a small volume, or a recent snapshot.
-pub fn volume(x: u64, s: &[u64]) -> Volume {
+fn volume(x: u64, s: &[u64]) -> Volume {
     let generation = get(s, state::GENERATION);
     let recent = minus(generation, draw(x, 40, 16));
     Volume {
@@ -142,7 +144,7 @@ pub fn volume(x: u64, s: &[u64]) -> Volume {
     }
 }
 
-pub fn file(x: u64, s: &[u64], f: usize) -> File {
+fn file(x: u64, s: &[u64], f: usize) -> File {
     File {
         number: state::file_number(f),
         size: state::size(s, f),
@@ -150,18 +152,33 @@ pub fn file(x: u64, s: &[u64], f: usize) -> File {
     }
 }
 
-pub fn range(call: Call) -> Range {
-    Range {
-        offset: call.to,
-        length: call.length,
-    }
+// A call with all that it is lent but slices.
+pub struct Lent {
+    pub operation: u64,
+    pub volume: Volume,
+    pub dst: File,
+    pub src: File,
+    pub own: bool,
+    pub range: Range,
+    pub span: Span,
 }
 
-pub fn span(call: Call) -> Span {
-    Span {
-        from: call.from,
-        to: call.to,
-        length: call.length,
+pub fn all_lent(call: Call, x: u64, s: &[u64]) -> Lent {
+    Lent {
+        operation: call.operation,
+        volume: volume(x, s),
+        dst: file(x, s, call.file),
+        src: file(x, s, call.source),
+        own: call.source == call.file,
+        range: Range {
+            offset: call.to,
+            length: call.length,
+        },
+        span: Span {
+            from: call.from,
+            to: call.to,
+            length: call.length,
+        },
     }
 }
 

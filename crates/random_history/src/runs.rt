@@ -1,6 +1,7 @@
 // One call: the compiled operation on the volume's bytes, with as many places as it wants, and applying.
 use crate::calls;
 use crate::calls::Call;
+use crate::calls::Lent;
 use crate::numbers::bytes_in;
 use crate::numbers::get;
 use crate::numbers::lead;
@@ -25,12 +26,12 @@ fn fill_places(s: &[u64], places: &mut [u64]) {
     }
 }
 
-fn punch_answer(
-    call: Call,
-    x: u64,
-    s: &[u64],
-    list: &[u8],
+// The call with these places lent.
+fn attempt<'a>(
+    l: Lent,
+    list: &'a [u8],
     shared: &[u8],
+    source: &'a [u8],
     table: &[u64],
     places: &[u64],
     edits: &mut [u8],
@@ -40,108 +41,16 @@ fn punch_answer(
     adds: &mut [u64],
     writes: &mut [u64],
 ) -> Answer {
-    punch::punch_hole(
-        calls::volume(x, s),
-        calls::file(x, s, call.file),
-        calls::range(call),
-        list,
-        shared,
-        table,
-        places,
-        edits,
-        shares,
-        unrefs,
-        releases,
-        adds,
-        writes,
-    )
-}
-
-fn fallocate_answer(
-    call: Call,
-    x: u64,
-    s: &[u64],
-    list: &[u8],
-    shared: &[u8],
-    table: &[u64],
-    places: &[u64],
-    edits: &mut [u8],
-    shares: &mut [u64],
-    unrefs: &mut [u64],
-    releases: &mut [u64],
-    adds: &mut [u64],
-    writes: &mut [u64],
-) -> Answer {
-    fallocate::fallocate(
-        calls::volume(x, s),
-        calls::file(x, s, call.file),
-        calls::range(call),
-        call.operation == calls::FALLOCATE_KEEP,
-        list,
-        shared,
-        table,
-        places,
-        edits,
-        shares,
-        unrefs,
-        releases,
-        adds,
-        writes,
-    )
-}
-
-fn clone_answer(
-    call: Call,
-    x: u64,
-    s: &[u64],
-    lists: &[u8],
-    shared: &[u8],
-    table: &[u64],
-    edits: &mut [u8],
-    shares: &mut [u64],
-    unrefs: &mut [u64],
-    releases: &mut [u64],
-) -> Answer {
-    clone::clone_range(
-        calls::volume(x, s),
-        calls::file(x, s, call.file),
-        calls::file(x, s, call.source),
-        call.source == call.file,
-        calls::span(call),
-        state::list(lists, s, call.file),
-        shared,
-        state::list(lists, s, call.source),
-        table,
-        edits,
-        shares,
-        unrefs,
-        releases,
-    )
-}
-
-// The call of the turn x with these places lent.
-fn attempt(
-    call: Call,
-    x: u64,
-    s: &[u64],
-    lists: &[u8],
-    shared: &[u8],
-    table: &[u64],
-    places: &[u64],
-    edits: &mut [u8],
-    shares: &mut [u64],
-    unrefs: &mut [u64],
-    releases: &mut [u64],
-    adds: &mut [u64],
-    writes: &mut [u64],
-) -> Answer {
-    if call.operation == calls::CLONE {
-        return clone_answer(
-            call,
-            x,
-            s,
-            lists,
+    if l.operation == calls::CLONE {
+        return clone::clone_range(
+            l.volume,
+            l.dst,
+            l.src,
+            l.own,
+            l.span,
+            list,
             shared,
+            source,
             table,
             edits,
             shares,
@@ -149,12 +58,11 @@ fn attempt(
             releases,
         );
     }
-    let list = state::list(lists, s, call.file);
-    if call.operation == calls::PUNCH {
-        return punch_answer(
-            call,
-            x,
-            s,
+    if l.operation == calls::PUNCH {
+        return punch::punch_hole(
+            l.volume,
+            l.dst,
+            l.range,
             list,
             shared,
             table,
@@ -167,10 +75,11 @@ fn attempt(
             writes,
         );
     }
-    fallocate_answer(
-        call,
-        x,
-        s,
+    fallocate::fallocate(
+        l.volume,
+        l.dst,
+        l.range,
+        l.operation == calls::FALLOCATE_KEEP,
         list,
         shared,
         table,
@@ -185,12 +94,11 @@ fn attempt(
 }
 
 // The call, with one of these 12 places more until their number is right.
-fn attempts(
-    call: Call,
-    x: u64,
-    s: &[u64],
-    lists: &[u8],
+fn attempts<'a>(
+    l: Lent,
+    list: &'a [u8],
     shared: &[u8],
+    source: &'a [u8],
     table: &[u64],
     places: &[u64],
     edits: &mut [u8],
@@ -203,11 +111,10 @@ fn attempts(
     let mut i: usize = 0;
     while i < 12 {
         let a = attempt(
-            call,
-            x,
-            s,
-            lists,
+            l,
+            list,
             shared,
+            source,
             table,
             lead(places, i),
             edits,
@@ -244,11 +151,10 @@ pub fn answer(
     put_byte(&mut shared, calls::leaf_record(x), calls::leaf(x));
     fill_places(s, &mut places);
     attempts(
-        call,
-        x,
-        s,
-        lists,
+        calls::all_lent(call, x, s),
+        state::list(lists, s, call.file),
         lead_bytes(&shared, state::items(s, call.file)),
+        state::list(lists, s, call.source),
         state::table_of(table, s),
         &places,
         edits,

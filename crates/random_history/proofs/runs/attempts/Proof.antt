@@ -6,11 +6,11 @@ use Rattle.random_history.proofs.runs.attempts.Statement.{statement}
 use Rattle.random_history.proofs.runs.attempts.Tie as tie
 
 abbrev Inv-loop : tie.InvT-loop
-Inv-loop call x s lists shared table places edits₀ shares₀ unrefs₀ releases₀ adds₀ writes₀ i₀ edits shares unrefs releases adds writes i =
+Inv-loop l list shared source table places edits₀ shares₀ unrefs₀ releases₀ adds₀ writes₀ i₀ edits shares unrefs releases adds writes i =
     (length edits ≡ length edits₀) × (length shares ≡ length shares₀) × (length unrefs ≡ length unrefs₀) × (length releases ≡ length releases₀) × (length adds ≡ length adds₀) × (length writes ≡ length writes₀)
 
 abbrev μ-loop : tie.MeasureT-loop
-μ-loop call x s lists shared table places edits₀ shares₀ unrefs₀ releases₀ adds₀ writes₀ i₀ edits shares unrefs releases adds writes i =
+μ-loop l list shared source table places edits₀ shares₀ unrefs₀ releases₀ adds₀ writes₀ i₀ edits shares unrefs releases adds writes i =
     12 - i
 
 loop-holds : tie.Need-loop-holds Inv-loop μ-loop
