@@ -1,7 +1,7 @@
 -- Ample outputs have room for a plan of so many lines. Assumes nothing.
 use mathlib.Core.Path.{_≡_}
 use mathlib.Core.Bool.{true}
-use Prim.Native.Nat.{ℕ, _*_, _+_, _/_, _≤_}
+use Prim.Native.Nat.{_*_, _+_, _/_, _≤_}
 use native.Mathlib.Omega.{arith}
 use lib.Dec.{leb}
 use lib.ListN.{length}

@@ -1,16 +1,16 @@
 -- With ample outputs no plan is refused for want of room (27): which ample outputs they are makes no difference. Assumes nothing.
-use mathlib.Core.Path.{_≡_, refl, ap, _∙_, sym}
+use mathlib.Core.Path.{_≡_, refl, ap, sym}
 use mathlib.Core.Bool.{Bool, true, false, cond, _&&_, not}
-use mathlib.Core.List.{List, [], _∷_, _++_, map}
+use mathlib.Core.List.{List, [], _∷_, map}
 use mathlib.Core.Option.{Option, none, some}
-use Prim.Native.Nat.{ℕ, zero, suc, _+_, _*_, _≤_}
+use Prim.Native.Nat.{ℕ, zero, suc, _+_, _≤_}
 use native.Mathlib.Omega.{arith}
-use lib.Dec.{eqb, leb, ltb}
+use lib.Dec.{ltb}
 use lib.ListN.{length, length-append, length-map}
-use borrow.Author.Tests.{eqb-true}
 use Rattle.records.specs.Stages.{unless, first, firstOf}
 use Rattle.records.specs.Select.{only, keep}
-use Rattle.records.proofs.Tests.{both-left, firstOf-zero}
+use Rattle.records.proofs.Tests.{firstOf-zero}
+use Rattle.records.proofs.Picks.{only-few}
 use Rattle.item.specs.Items.{Fields, hole, items}
 use Rattle.table.specs.declared.Row.{Row}
 use Rattle.table.specs.Rows.{rows}
@@ -31,7 +31,7 @@ use Rattle.cut.specs.Pieces.{cutPieces}
 use Rattle.cut.specs.Refs.{refOf}
 use Rattle.cut.proofs.Inserts.{insertAll-length}
 use Rattle.change.specs.Preallocs.{pieceLimit}
-use Rattle.change.specs.Rewrites.{Ground, groundOf, itemsHeld}
+use Rattle.change.specs.Rewrites.{Ground, groundOf}
 use Rattle.change.specs.Changes.{Change, before, changeRefusal, changed, wanted, planOf}
 use Rattle.change.proofs.Drafts.{keep-most, edits-most, cut-most, unrefs-most, releases-most, numbers-most}
 use Rattle.change.specs.declared.Rewrite.{Rewrite}
@@ -86,10 +86,6 @@ nothing-same (some y) f g h = h y refl
 
 -- ---- a punch
 
-only-most : {A : Type 0} (b : Bool) (x : A) → length (only b x) ≤ 1
-only-most true x = omega arith
-only-most false x = omega arith
-
 -- a punch rewrites two sectors at most
 module _ (fs : List Fields) (size sector stop : ℕ) where
   change-most : (start : ℕ) → length (punchChange fs size sector start stop .rewrites) ≤ 2
@@ -107,7 +103,7 @@ module _ (fs : List Fields) (size sector stop : ℕ) where
       go false b =
           let x : Bool = firstPart fs size sector start stop in
           let y : Bool = lastPart fs size sector start stop in
-          omega (arith, length-append (only x one) (only y two), only-most x one, only-most y two)
+          omega (arith, length-append (only x one) (only y two), only-few x one, only-few y two)
 
   from-most : (o : Option ℕ) (c : Change) → changeFrom fs size sector stop o ≡ some c → length (c .rewrites) ≤ 2
   from-most none c h = let z : _≡_ {A = ℕ} 0 1 = cc in absurd (omega arith)
@@ -160,7 +156,7 @@ module _ (one two : Rooms) (a : Ample one) (b : Ample two) (v : Volume) (f : Fil
       let w : Rewrite = record { sector = roundDown (v .sector) (f .size); first = f .size; end = roundDown (v .sector) (f .size) + v .sector } in
       let c : Change = fallocateChange keepSize fs (f .size) (v .sector) (r .offset) (r .offset + r .length) in
       changed-same one two a b g c places (t .«table-kept») (ground-few t c)
-      (omega (arith, only-most (endRewritten (v .sector) (f .size) (r .offset + r .length)) w))
+      (omega (arith, only-few (endRewritten (v .sector) (f .size) (r .offset + r .length)) w))
       short))
 
 -- ---- a clone

@@ -1,5 +1,5 @@
 -- Which line of an answer the nth is, by the numbers of lines. Assumes nothing.
-use mathlib.Core.Path.{_≡_, refl, ap, _∙_, sym, subst}
+use mathlib.Core.Path.{_≡_, refl, _∙_, subst}
 use mathlib.Core.List.{List, [], _∷_, _++_, map}
 use Prim.Native.Nat.{ℕ, _-_, _*_, _≤_, _<_}
 use lib.ListN.{drop}

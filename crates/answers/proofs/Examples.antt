@@ -1,9 +1,10 @@
 -- Whole answers, computed: the printed example of document 01 (P1), and the order of all parts.
 use mathlib.Core.Path.{_≡_, refl}
 use mathlib.Core.Bool.{false}
-use mathlib.Core.List.{List, [], _∷_, map}
+use mathlib.Core.List.{[], _∷_, map}
 use Prim.Native.Nat.{ℕ}
-use Rattle.digits.specs.Text.{text, digits, decimal, joined}
+use Rattle.words.specs.Words.{bytes as text}
+use Rattle.digits.specs.Text.{digits, decimal, joined}
 use Rattle.line_fields.specs.Fields.{spaced, field, pair, unlessZero}
 use Rattle.item.specs.Items.{Fields}
 use Rattle.cut.specs.Edits.{put, delete}

@@ -4,7 +4,7 @@ use mathlib.Core.List.{List, [], _∷_, _++_, map}
 use Prim.Native.Nat.{ℕ, zero, suc, _+_, _-_, _*_, _≤_, _<_}
 use native.Mathlib.Omega.{arith}
 use native.Mathlib.Nat.{zero-mul, suc-mul}
-use lib.ListN.{length, getD, drop, List·getD-append, List·getD-eq-default}
+use lib.ListN.{length, drop, List·getD-append, List·getD-eq-default}
 use lib.Seq.{getD-append-add, drop-drop}
 use Rattle.records.specs.Records.{chunks}
 use Rattle.answers.specs.Printed.{lineAt}

@@ -5,11 +5,10 @@ use mathlib.Core.List.{List, [], _∷_, _++_, append-assoc}
 use Prim.Native.Nat.{ℕ, zero, suc, _+_, _-_, _*_, _/_, _%_, _<_, _≤_, _^_}
 use native.Mathlib.Omega.{arith}
 use lib.Dec.{ltb}
-use lib.ListN.{length, take, drop, set, length-append, length-drop, length-set}
-use lib.Seq.{drop-cons, drop-set-lt, getD-set-same, take-all}
+use lib.ListN.{length, drop, set, length-append, length-drop, length-set}
+use lib.Seq.{drop-cons, drop-set-lt, getD-set-same}
 use borrow.Author.Tests.{ltb-true, ltb-false}
-use Rattle.endian.specs.Le.{put}
-use Rattle.digits.specs.Text.{digit, digits, decimal, Added}
+use Rattle.digits.specs.Text.{digit, digits, decimal}
 
 -- more than enough is no more
 digits-enough : (f g q d : ℕ) → q ≤ f → q ≤ g → digits f q d ≡ digits g q d

@@ -1,8 +1,8 @@
 -- Texts and numbers, computed.
 use mathlib.Core.Path.{_≡_, refl}
-use mathlib.Core.List.{List, [], _∷_, map}
-use Prim.Native.Nat.{ℕ}
-use Rattle.digits.specs.Text.{text, digits, decimal, joined}
+use mathlib.Core.List.{[], _∷_, map}
+use Rattle.words.specs.Words.{bytes as text}
+use Rattle.digits.specs.Text.{digits, decimal, joined}
 
 letters : text "(put 0)\n" ≡ 40 ∷ 112 ∷ 117 ∷ 116 ∷ 32 ∷ 48 ∷ 41 ∷ 10 ∷ []
 letters = refl

@@ -1,16 +1,9 @@
--- Text as bytes, and numbers as text (document 01, "extplan": "decimal, a form a line").
+-- Numbers as text (document 01, "extplan": "decimal, a form a line").
 use mathlib.Core.List.{List, [], _∷_, _++_}
 use mathlib.Core.Path.{_≡_}
 use Prim.Native.Nat.{ℕ, zero, suc, _+_, _/_, _%_}
-use Prim.Native.Char.{code}
-use Prim.Native.String.{String, [] as none, _∷_ as _before_}
 use lib.ListN.{length}
 use Rattle.endian.specs.Le.{put}
-
--- the bytes of a text of ASCII characters
-abbrev pub text : String → List ℕ
-text none = []
-text (c before s) = code c ∷ text s
 
 -- the character of a number below 10: 48 is that of 0
 abbrev pub digit : ℕ → ℕ

@@ -1,7 +1,8 @@
 -- Fields computed.
 use mathlib.Core.Path.{_≡_, refl}
-use mathlib.Core.List.{List, [], _∷_}
-use Rattle.digits.specs.Text.{text, digits, decimal, joined}
+use mathlib.Core.List.{[], _∷_}
+use Rattle.words.specs.Words.{bytes as text}
+use Rattle.digits.specs.Text.{digits, decimal, joined}
 use Rattle.line_fields.specs.Fields.{spaced, field, pair, unlessZero}
 
 fields :

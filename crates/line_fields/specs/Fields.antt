@@ -3,7 +3,8 @@ use mathlib.Core.Bool.{cond}
 use mathlib.Core.List.{List, [], _∷_}
 use Prim.Native.Nat.{ℕ}
 use lib.Dec.{eqb}
-use Rattle.digits.specs.Text.{text, decimal, joined}
+use Rattle.words.specs.Words.{bytes as text}
+use Rattle.digits.specs.Text.{decimal, joined}
 
 -- " N"
 unfoldable pub spaced : ℕ → List ℕ

@@ -15,7 +15,7 @@ use Rattle.request.specs.declared.File.{File}
 use Rattle.request.specs.declared.Answer.{Answer}
 use Rattle.request.specs.Answers.{Outcome, plan, nothing, refused}
 use Rattle.plan.specs.Plans.{Plan, Add, Write}
-use Rattle.plan.specs.Outputs.{Rooms, Outs, roomFor, addNumbers, writeNumbers, laid, outs, roomsOf, left, Met}
+use Rattle.plan.specs.Outputs.{Rooms, Outs, addNumbers, writeNumbers, laid, outs, roomsOf, left, Met}
 use Rattle.plan.proofs.Outcomes.{refusedOr-plan}
 use Rattle.spans.specs.declared.Span.{Span}
 use Rattle.clone_plan.specs.Clone.{withRoom, draftedLent, cloneLent}

@@ -1,9 +1,8 @@
 -- One line of an output: what is read and printed, and that it is short. Assumes nothing.
-use mathlib.Core.Path.{_≡_, refl, ap, _∙_, sym, subst}
-use mathlib.Core.Bool.{Bool, true, false, cond}
+use mathlib.Core.Path.{_≡_, refl, _∙_, sym, subst}
+use mathlib.Core.Bool.{Bool, true, false}
 use mathlib.Core.List.{List}
 use Prim.Native.Nat.{ℕ, _+_, _*_, _≤_, _<_, _^_}
-use native.Mathlib.Omega.{arith}
 use native.Mathlib.Nat.{add-zero}
 use lib.Dec.{eqb}
 use lib.ListN.{length, getD, drop}
@@ -16,7 +15,6 @@ use Rattle.item.proofs.Runs.{decode-sound}
 use Rattle.puts.specs.Puts.{putLine}
 use Rattle.puts.proofs.Bounds.{put-short}
 use Rattle.cut.specs.Refs.{Ref}
-use Rattle.cut.specs.Edits.{Edit, put, delete}
 use Rattle.plan.specs.Plans.{Add, Write}
 use Rattle.plan.specs.Reading.{editOf, refOf, addOf, writeOf}
 use Rattle.printing.specs.Lines.{deleteLine, editLine, refLine, addLine, writeLine}

@@ -1,8 +1,9 @@
 -- Lines computed: those of document 01, and each form that it names.
 use mathlib.Core.Path.{_≡_, refl}
 use mathlib.Core.Bool.{true, false}
-use mathlib.Core.List.{List, [], _∷_}
-use Rattle.digits.specs.Text.{text, digits, decimal, joined}
+use mathlib.Core.List.{[], _∷_}
+use Rattle.words.specs.Words.{bytes as text}
+use Rattle.digits.specs.Text.{digits, decimal, joined}
 use Rattle.line_fields.specs.Fields.{spaced, field, pair}
 use Rattle.cut.specs.Edits.{delete}
 use Rattle.printing.specs.Lines.{

@@ -2,7 +2,8 @@
 use mathlib.Core.Bool.{Bool, cond}
 use mathlib.Core.List.{List, [], _∷_}
 use Prim.Native.Nat.{ℕ}
-use Rattle.digits.specs.Text.{text, joined}
+use Rattle.words.specs.Words.{bytes as text}
+use Rattle.digits.specs.Text.{joined}
 use Rattle.line_fields.specs.Fields.{spaced, field, pair, end}
 use Rattle.cut.specs.Refs.{Ref}
 use Rattle.cut.specs.Edits.{Edit, put, delete}

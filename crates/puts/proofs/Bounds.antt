@@ -1,14 +1,12 @@
 -- How long the line of an item that is put can be. Assumes nothing.
-use mathlib.Core.Path.{_≡_}
-use mathlib.Core.List.{List}
-use Prim.Native.Nat.{ℕ, _+_, _≤_, _<_, _^_}
+use Prim.Native.Nat.{_≤_}
 use native.Mathlib.Omega.{arith}
 use lib.ListN.{length}
 use Rattle.endian.specs.Le.{room}
-use Rattle.digits.specs.Text.{text, decimal}
+use Rattle.words.specs.Words.{bytes as text}
+use Rattle.digits.specs.Text.{decimal}
 use Rattle.digits.proofs.Decimal.{length-64, length-16, length-8}
 use Rattle.digits.proofs.Parts.{length-parts, length-none}
-use Rattle.line_fields.specs.Fields.{field, pair, unlessZero}
 use Rattle.line_fields.proofs.Laws.{length-field, length-pair, length-unless-zero}
 use Rattle.item.specs.Items.{Fields, Sound}
 use Rattle.puts.specs.Puts.{itemFields, addedFields, putLine}

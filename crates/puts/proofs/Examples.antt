@@ -1,9 +1,10 @@
 -- Lines of items that are put, computed.
 use mathlib.Core.Path.{_≡_, refl}
-use mathlib.Core.List.{List, [], _∷_, map}
+use mathlib.Core.List.{[], _∷_, map}
 use Prim.Native.Nat.{ℕ, _-_, _^_}
 use lib.ListN.{length}
-use Rattle.digits.specs.Text.{text, digits, decimal, joined}
+use Rattle.words.specs.Words.{bytes as text}
+use Rattle.digits.specs.Text.{digits, decimal, joined}
 use Rattle.line_fields.specs.Fields.{spaced, field, pair, unlessZero}
 use Rattle.item.specs.Items.{Fields}
 use Rattle.puts.specs.Puts.{itemFields, addedFields, putLine}

@@ -1,7 +1,8 @@
 -- The line of an item that is put (document 01, "extplan").
 use mathlib.Core.List.{List, [], _∷_}
 use Prim.Native.Nat.{ℕ}
-use Rattle.digits.specs.Text.{text, joined}
+use Rattle.words.specs.Words.{bytes as text}
+use Rattle.digits.specs.Text.{joined}
 use Rattle.line_fields.specs.Fields.{field, pair, unlessZero, end}
 use Rattle.item.specs.Items.{Fields}
 

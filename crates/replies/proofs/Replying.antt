@@ -1,9 +1,9 @@
 -- The reply to an input, from what was read and what the operation left. Assumes nothing.
 use mathlib.Core.Path.{_≡_, refl, ap, _∙_, sym}
 use mathlib.Core.List.{List, [], _∷_, _++_, flatMap}
-use Prim.Native.Nat.{ℕ, _+_, _-_, _*_, _/_, _<_, _≤_, _^_}
+use Prim.Native.Nat.{ℕ, _+_, _<_, _≤_, _^_}
 use native.Mathlib.Omega.{arith}
-use lib.ListN.{length, take, drop, length-append}
+use lib.ListN.{length, take, length-append}
 use lib.Seq.{take-all}
 use borrow.Author.Tests.{ne-eqb}
 use mathlib.Core.Bool.{true}
@@ -13,15 +13,14 @@ use Rattle.endian.proofs.Numbers.{length-enc}
 use Rattle.item.specs.Items.{Fields, encode, items}
 use Rattle.item.proofs.Laws.{items-length}
 use Rattle.segment.proofs.Buffer.{length-encode}
-use Rattle.lines.specs.Lines.{lay}
 use Rattle.lines.proofs.Laws.{length-flat, length-lay}
 use Rattle.request.specs.declared.Answer.{Answer}
 use Rattle.request.specs.Answers.{Outcome}
 use Rattle.plan.specs.Plans.{Plan}
 use Rattle.plan.specs.Outputs.{Rooms, Outs, roomsOf, Met}
 use Rattle.widths.proofs.Bytes.{bytes-items}
-use Rattle.ample.specs.Ample.{mostRecords, mostPlaces, enough, Ample}
-use Rattle.answers.specs.Printed.{printed, shown}
+use Rattle.ample.specs.Ample.{mostRecords, enough, Ample}
+use Rattle.answers.specs.Printed.{printed}
 use Rattle.shown.proofs.Back.{shown-printed, met-holds}
 use Rattle.item_lines.specs.Raw.{byte}
 use Rattle.taking.specs.declared.Read.{Read}
@@ -29,10 +28,9 @@ use Rattle.taking.specs.Run.{Reading}
 use Rattle.taking.specs.Taking.{rowNumbers, fault}
 use Rattle.storing.specs.Storing.{alone, Buffers, Stored}
 use Rattle.reading.specs.Input.{readInput}
-use Rattle.operating.specs.Operations.{operation, listIn, sourceIn, sharedIn, tableIn, placesIn, operationIn, Stored as Lying}
-use Rattle.replies.specs.declared.Reply.{Reply}
-use Rattle.replies.specs.Raw.{mostRows, Roomy}
-use Rattle.replies.specs.Replies.{operationOn, linesOr, answerTo, Replied}
+use Rattle.operating.specs.Operations.{listIn, sourceIn, sharedIn, tableIn, placesIn, operationIn, Stored as Lying}
+use Rattle.replies.specs.Raw.{Roomy}
+use Rattle.replies.specs.Replies.{operationOn, answerTo, Replied}
 use Rattle.replies.proofs.Parts.{all-laid, first-laid, second-laid, some-laid}
 use Rattle.replies.proofs.Operation.{operation-same, operation-fits}
 use Rattle.replies.proofs.Counts.{Known, known}

@@ -1,5 +1,5 @@
 -- The plan that an operation left in its outputs, read back, is the plan: so what is printed is the outcome. Assumes nothing.
-use mathlib.Core.Path.{_≡_, refl, ap, ap₂, _∙_, sym}
+use mathlib.Core.Path.{_≡_, refl, ap, ap₂, _∙_}
 use mathlib.Core.Bool.{Bool, true}
 use mathlib.Core.List.{List, [], _∷_, _++_, flatMap, append-assoc}
 use Prim.Native.Nat.{ℕ, _+_, _*_, _<_, _≤_}
@@ -11,10 +11,10 @@ use Rattle.endian.specs.Le.{put}
 use Rattle.records.specs.Records.{chunks}
 use Rattle.records.specs.Stages.{every}
 use Rattle.records.proofs.Tests.{both-left, both-right}
-use Rattle.request.specs.declared.Numbers.{Numbers}
+use Rattle.records.proofs.Lists.{every-true}
 use Rattle.request.specs.declared.Answer.{Answer}
 use Rattle.request.specs.Answers.{Outcome, plan, nothing, refused, said}
-use Rattle.plan.specs.Plans.{Plan, numbers, told}
+use Rattle.plan.specs.Plans.{Plan, numbers}
 use Rattle.plan.specs.Outputs.{Outs, Met, laid, left, editBytes, refNumbers, addNumbers, writeNumbers}
 use Rattle.plan.specs.Reading.{editOf, refOf, addOf, writeOf}
 use Rattle.plan.proofs.Outputs.{edit-length}
@@ -22,11 +22,6 @@ use Rattle.lines.proofs.Laws.{length-flat}
 use Rattle.widths.specs.Widths.{editFits}
 use Rattle.widths.proofs.Read.{edit-back}
 use Rattle.answers.specs.Printed.{printed, planIn, readBack, shown, Holds, HoldsAnswer}
-
-every-true : {A : Type 0} (l : List A) → every (λ a. true) l ≡ true
-unfolding every
-every-true [] = refl
-every-true (a ∷ l) = every-true l
 
 -- ---- one output: f gives the numbers of a line, w of them
 

@@ -1,7 +1,8 @@
 -- From a request to what is printed for it, computed: the printed example of document 01 (P1), and P2, P3, P4, P7 on its file.
 use mathlib.Core.Path.{_≡_, refl}
-use mathlib.Core.List.{List, [], _∷_, map, flatMap}
-use Rattle.digits.specs.Text.{text, digits, decimal, joined}
+use mathlib.Core.List.{[], _∷_, map, flatMap}
+use Rattle.words.specs.Words.{bytes as text}
+use Rattle.digits.specs.Text.{digits, decimal, joined}
 use Rattle.line_fields.specs.Fields.{spaced, field, pair, unlessZero}
 use Rattle.records.specs.Stages.{first, firstOf, stage, every, pairs, neighbours}
 use Rattle.records.specs.Select.{keep, any, count}

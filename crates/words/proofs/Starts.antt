@@ -11,7 +11,7 @@ use lib.ListN.{length, drop, getD, drop-of-length-le, length-drop}
 use lib.Seq.{drop-cons}
 use borrow.Author.Tests.{eq-eqb, ne-eqb}
 use Rattle.records.proofs.Tests.{both-right}
-use Rattle.words.specs.Words.{starts, behind}
+use Rattle.words.specs.Words.{starts}
 
 -- at the text's end there is only the word without bytes
 starts-end : (w : List ℕ) → starts w [] ≡ eqb (length w) 0

@@ -1,5 +1,5 @@
 use native.Mathlib.Omega.{arith}
-use Rattle.digits.specs.Text.{text}
+use Rattle.words.specs.Words.{bytes as text}
 use Rattle.printing.proofs.Bounds.{number-short}
 use borrow.Author.Needs.{needs}
 use Rattle.answers.proofs.put_fault.Statement.{statement}

@@ -1,6 +1,6 @@
 use denote.Ref.{now}
 use native.Mathlib.Omega.{arith}
-use Rattle.digits.specs.Text.{text}
+use Rattle.words.specs.Words.{bytes as text}
 use Rattle.digits.proofs.Parts.{added-none}
 use Rattle.printing.specs.Lines.{refusedLine}
 use Rattle.printing.proofs.Bounds.{number-short}

@@ -1,10 +1,10 @@
-use mathlib.Core.Path.{_≡_, _∙_, refl}
+use mathlib.Core.Path.{_≡_, refl}
 use mathlib.Core.List.{_++_, append-nil}
-use Prim.Native.Nat.{_+_, _-_, _≤_, _<_}
+use Prim.Native.Nat.{_+_, _-_, _≤_}
 use denote.Ref.{now}
 use borrow.Author.Needs.{needs}
 use lib.ListN.{length, drop, set, length-set}
-use Rattle.digits.specs.Text.{decimal, Added}
+use Rattle.digits.specs.Text.{decimal}
 use Rattle.digits.proofs.Decimal.{length-64, decimal-some, decimal-shorter, decimal-turn, ended}
 use Rattle.digits.proofs.Parts.{added-copied}
 use native.Mathlib.Omega.{arith}
