@@ -11,12 +11,12 @@ use Rattle.records.specs.Stages.{unless, first, stage, every}
 use Rattle.records.proofs.Tests.{first-zero, unless-zero, both-left, both-right}
 use Rattle.item.specs.Items.{Fields, items, encode}
 use Rattle.table.specs.declared.Row.{Row}
-use Rattle.table.specs.Rows.{rows, tableKept}
+use Rattle.table.specs.Rows.{rows, tableKept, rowNumbers}
 use Rattle.lists.specs.Lists.{wellKept, whole}
 use Rattle.plan.specs.Plans.{Plan}
 use Rattle.plan.specs.Outputs.{laid}
 use Rattle.applying.specs.Apply.{itemsNow, rowsNow, rowMissing, netSound, Applying, applied, orApplied, apply}
-use Rattle.applying.specs.Lent.{itemsIn, rowsIn, rowNumbers}
+use Rattle.applying.specs.Lent.{itemsIn, rowsIn}
 use Rattle.results.specs.Checks.{itemsNow as listNow}
 use Rattle.counting.specs.Counts.{netsFrom}
 use Rattle.rows_after.specs.Places.{stayFrom, rowsNow as tableNow}

@@ -3,10 +3,10 @@ use mathlib.Core.List.{List}
 use mathlib.Core.Path.{_≡_}
 use Prim.Native.Nat.{ℕ}
 use lib.ListN.{length}
+use Rattle.table.specs.Rows.{rowNumbers}
 use Rattle.item.specs.Items.{encode}
 use Rattle.plan.specs.Outputs.{laid}
 use Rattle.applying.specs.Apply.{Applying, applied, refusal}
-use Rattle.applying.specs.Lent.{rowNumbers}
 use Rattle.apply.specs.declared.Applied.{Applied}
 use Rattle.apply.specs.declared.Applied.the-variants.{Done, Refused}
 

@@ -49,10 +49,6 @@ partsBroken p =
     && ((eqb (length (p .shares) % 2) 0 && eqb (length (p .unrefs) % 2) 0) && (eqb (length (p .releases) % 2) 0 && eqb (length (p .adds) % 3) 0)))
     1
 
--- the five numbers of a row
-abbrev pub rowNumbers : Row → List ℕ
-rowNumbers r = r .start ∷ r .length ∷ r .references ∷ r .made ∷ r .keyed ∷ []
-
 -- the first n records of a list that has room behind them, and the first n rows of a table
 abbrev pub itemsIn : ℕ → List ℕ → List Fields
 itemsIn n list = items (take (n * 70) list)

@@ -13,6 +13,7 @@ use Rattle.records.specs.Stages.{every, pairs}
 use Rattle.records.specs.Select.{only, keep, any, count}
 use Rattle.records.proofs.Tests.{both, both-left, both-right}
 use Rattle.records.proofs.Lists.{every-true}
+use Rattle.records.proofs.Picks.{keep-two, only-few}
 use Rattle.records.proofs.Counts.{count-length, count-apart}
 use Rattle.item.specs.Items.{Fields, hole, end, joined}
 use Rattle.table.specs.declared.Row.{Row}
@@ -184,19 +185,8 @@ module _ (g : Ground) (c : Change) (limit : ℕ) where
 
 -- any list
 module _ {A : Type 0} where
-  -- those that pass and those that do not
-  keep-parts : (p : A → Bool) (l : List A) → length (keep p l) + length (keep (λ (a : A). not (p a)) l) ≡ length l
-  unfolding keep
-  keep-parts p [] = refl
-  keep-parts p (a ∷ l) = go (p a) (keep-parts p l)
-    where
-      go : (b : Bool) → length (keep p l) + length (keep (λ (a : A). not (p a)) l) ≡ length l
-          → length (cond b (a ∷ keep p l) (keep p l)) + length (cond (not b) (a ∷ keep (λ (a : A). not (p a)) l) (keep (λ (a : A). not (p a)) l)) ≡ suc (length l)
-      go true h = omega arith
-      go false h = omega arith
-
   pub keep-most : (p : A → Bool) (l : List A) → length (keep p l) ≤ length l
-  keep-most p l = omega (arith, keep-parts p l)
+  keep-most p l = omega (arith, keep-two p l)
 
   -- at most n for each
   flat-most : {B : Type 0} (f : A → List B) (n : ℕ) → ((a : A) → length (f a) ≤ n) → (l : List A) → length (flatMap f l) ≤ n * length l
@@ -204,12 +194,8 @@ module _ {A : Type 0} where
   flat-most f n h [] = omega arith
   flat-most f n h (a ∷ l) = omega (arith, length-append (f a) (flatMap f l), h a, flat-most f n h l)
 
-  only-most : (b : Bool) (a : A) → length (only b a) ≤ 1
-  only-most true a = omega arith
-  only-most false a = omega arith
-
 puts-most : (ps : List Piece) → length (puts ps) ≤ length ps
-puts-most ps = omega (arith, flat-most (λ (p : Piece). only (p .made) (Edit.put (p .item))) 1 (λ p. only-most (p .made) (Edit.put (p .item))) ps)
+puts-most ps = omega (arith, flat-most (λ (p : Piece). only (p .made) (Edit.put (p .item))) 1 (λ p. only-few (p .made) (Edit.put (p .item))) ps)
 
 one-most : (b : Bool) → cond b 0 1 ≤ 1
 one-most true = omega arith
@@ -225,7 +211,7 @@ edits-most (f ∷ fs) ps =
       puts-most (keep (below (f .key)) ps),
       one-most (any (λ (p : Piece). eqb (p .item .key) (f .key)) ps),
       edits-most fs (keep (λ (p : Piece). not (below (f .key) p)) ps),
-      keep-parts (below (f .key)) ps,
+      keep-two (below (f .key)) ps,
     )
 
 -- ---- of the pieces
@@ -241,8 +227,8 @@ cut-most lo hi fs = flat-most (λ (f : Fields). cond (touched lo hi f) (map made
           arith,
           length-map (cut lo hi f) made,
           length-append (only (ltb (f .key) lo) (front lo f)) (only (ltb hi (end f)) (back hi f)),
-          only-most (ltb (f .key) lo) (front lo f),
-          only-most (ltb hi (end f)) (back hi f),
+          only-few (ltb (f .key) lo) (front lo f),
+          only-few (ltb hi (end f)) (back hi f),
         )
     go f false = omega arith
 

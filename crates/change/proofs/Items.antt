@@ -4,14 +4,14 @@ use mathlib.Core.Bool.{Bool, true, false, _&&_, _||_, not, false≢true}
 use mathlib.Core.List.{List, [], _∷_, List·Memᴰ}
 use mathlib.Core.Logic.{_⊎_, inl, inr, ⊎-elim}
 use mathlib.Core.Option.{some}
-use Prim.Native.Nat.{ℕ, _+_, _-_, _%_, _^_, _<_, _≤_}
+use Prim.Native.Nat.{ℕ, _+_, _%_, _^_, _<_, _≤_}
 use native.Mathlib.Omega.{arith}
 use native.Mathlib.Decide.{decLt}
 use native.Mathlib.Nat.{mod-self, dvd-add, dvd-of-mod-eq-zero, mod-eq-zero-of-dvd}
 use lib.Dec.{eqb, leb, ltb}
 use borrow.Author.Tests.{eqb-true, leb-true, ltb-true, eq-eqb, le-leb, lt-ltb, not-true}
 use Rattle.records.specs.Stages.{every, pairs}
-use Rattle.records.proofs.Tests.{both, both-left, both-right, either, either-left, either-right}
+use Rattle.records.proofs.Tests.{both, both-left, both-right, either, either-right}
 use Rattle.records.proofs.Lists.{every-mem, every-mapped}
 use Rattle.item.specs.Items.{Fields, ranged, hole, end, joined}
 use Rattle.lists.specs.Lists.{itemSound, rangeSound, apart, whole}
@@ -21,7 +21,7 @@ use Rattle.cut.specs.Cuts.{front, back}
 use Rattle.cut.specs.Mappings.{named}
 use Rattle.cut.specs.Pieces.{itemsOf, cutPieces}
 use Rattle.cut.proofs.Mappings.{Joint, Joins, joins-all, joins-every}
-use Rattle.cut.proofs.Kept.{clear, within, clear-apart, every-cut, every-insertAll}
+use Rattle.cut.proofs.Kept.{clear, within, clear-apart, every-cut, every-insertAll, is-clear}
 use Rattle.refs.specs.Drops.{Held}
 use Rattle.change.specs.Preallocs.{Span}
 use Rattle.change.specs.declared.Rewrite.{Rewrite}
@@ -34,16 +34,12 @@ use Rattle.change.proofs.Each.{each-every, each-pairs}
 
 -- ---- clear of a stretch
 
-pub clears : (lo hi : ℕ) (f : Fields) → (end f ≤ lo) ⊎ (hi ≤ f .key) → clear lo hi f ≡ true
-clears lo hi f (inl h) = either-left (leb (end f) lo) (leb hi (f .key)) (le-leb (end f) lo h)
-clears lo hi f (inr h) = either-right (leb (end f) lo) (leb hi (f .key)) (le-leb hi (f .key) h)
-
 pub clear-facts : (lo hi : ℕ) (f : Fields) → clear lo hi f ≡ true → (end f ≤ lo) ⊎ (hi ≤ f .key)
 clear-facts lo hi f h = ⊎-elim (λ x. inl (leb-true (end f) lo x)) (λ x. inr (leb-true hi (f .key) x)) (either (leb (end f) lo) (leb hi (f .key)) h)
 
 -- and of a part of it
 pub clear-part : (lo hi a b : ℕ) → lo ≤ a → b ≤ hi → (f : Fields) → clear lo hi f ≡ true → clear a b f ≡ true
-clear-part lo hi a b p q f h = clears a b f (⊎-elim (λ x. inl (omega arith)) (λ x. inr (omega arith)) (clear-facts lo hi f h))
+clear-part lo hi a b p q f h = is-clear a b f (⊎-elim (λ x. inl (omega arith)) (λ x. inr (omega arith)) (clear-facts lo hi f h))
 
 -- items clear of an item's range lie apart from it
 pub apart-clear : (x y : Fields) → clear (x .key) (end x) y ≡ true → apart x y ≡ true
@@ -54,8 +50,8 @@ apart-clear x y h = both-left (apart x y) true (clear-apart (x .key) (end x) x (
 pub clear-cut : (a b lo hi : ℕ) (fs : List Fields) → every (clear a b) fs ≡ true → every (clear a b) (itemsOf (cutPieces lo hi fs)) ≡ true
 clear-cut a b lo hi fs e =
     every-cut lo hi (clear a b) (clear a b) (λ f h s. h)
-    (λ f h p q. clears a b (front lo f) (⊎-elim (λ x. inl (omega arith)) (λ x. inr (omega arith)) (clear-facts a b f h)))
-    (λ f h p q. clears a b (back hi f) (⊎-elim (λ x. inl (omega arith)) (λ x. inr (omega arith)) (clear-facts a b f h)))
+    (λ f h p q. is-clear a b (front lo f) (⊎-elim (λ x. inl (omega arith)) (λ x. inr (omega arith)) (clear-facts a b f h)))
+    (λ f h p q. is-clear a b (back hi f) (⊎-elim (λ x. inl (omega arith)) (λ x. inr (omega arith)) (clear-facts a b f h)))
     fs e
 
 -- and so do joins
@@ -65,7 +61,7 @@ clear-joins a b n l j e = joins-every n (clear a b) go j e
     go : (f h : Fields) → Joint f h → clear a b f ≡ true → clear a b h ≡ true → clear a b (joined f h n) ≡ true
     go f h j p q =
         let t : end f ≡ h .key = j .touch in
-        clears a b (joined f h n)
+        is-clear a b (joined f h n)
         (⊎-elim (λ x. ⊎-elim (λ y. inl (omega arith)) (λ y. absurd (omega arith)) (clear-facts a b h q)) (λ x. inr x) (clear-facts a b f p))
 
 -- ---- one item
@@ -222,21 +218,21 @@ module _ (g : Ground) (c : Change) (fair : Fair g c) where
   pub written-apart : pairs apart (itemsInPlace g c) ≡ true
   written-apart =
       each-pairs g (itemInPlace g) (rewriteInside g c) (rewritesRise g) apart
-      (λ a d h k ua ud sa sd e. apart-clear (itemInPlace g a h) (itemInPlace g d k) (clears (a .sector) (a .sector + g .sector) (itemInPlace g d k) (inr (leb-true (a .sector + g .sector) (d .sector) e))))
+      (λ a d h k ua ud sa sd e. apart-clear (itemInPlace g a h) (itemInPlace g d k) (is-clear (a .sector) (a .sector + g .sector) (itemInPlace g d k) (inr (leb-true (a .sector + g .sector) (d .sector) e))))
       (c .rewrites) (fair .rewrites) (fair .rising)
 
   -- clear of what lies outside the cut
   pub written-outside : (a b : ℕ) → (b ≤ c .lo) ⊎ (c .hi ≤ a) → every (clear a b) (itemsInPlace g c) ≡ true
   written-outside a b o =
       each-every g (itemInPlace g) (rewriteInside g c) (clear a b)
-      (λ r h u s. let i = inside g c r u in clears a b (itemInPlace g r h) (⊎-elim (λ x. inr (omega (arith, i .low))) (λ x. inl (omega (arith, i .high))) o))
+      (λ r h u s. let i = inside g c r u in is-clear a b (itemInPlace g r h) (⊎-elim (λ x. inr (omega (arith, i .low))) (λ x. inl (omega (arith, i .high))) o))
       (c .rewrites) (fair .rewrites)
 
   -- and of each sector that is not written in place
   pub written-elsewhere : (r : Rewrite) → rewriteInside g c r ≡ true → inPlace g r ≡ false → every (clear (r .sector) (r .sector + g .sector)) (itemsInPlace g c) ≡ true
   written-elsewhere r u n =
       each-every g (itemInPlace g) (rewriteInside g c) (clear (r .sector) (r .sector + g .sector))
-      (λ d h v s. clears (r .sector) (r .sector + g .sector) (itemInPlace g d h) (side d h (inside g c r u) (inside g c d v) s)) (c .rewrites) (fair .rewrites)
+      (λ d h v s. is-clear (r .sector) (r .sector + g .sector) (itemInPlace g d h) (side d h (inside g c r u) (inside g c d v) s)) (c .rewrites) (fair .rewrites)
     where
       other : (d : Rewrite) (h : Held) → preallocated g d ≡ some h → r .sector ≡ d .sector → ⊥
       other d h s e =

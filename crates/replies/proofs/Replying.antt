@@ -7,6 +7,7 @@ use lib.ListN.{length, take, length-append}
 use lib.Seq.{take-all}
 use borrow.Author.Tests.{ne-eqb}
 use mathlib.Core.Bool.{true}
+use Rattle.table.specs.Rows.{rowNumbers}
 use Rattle.records.specs.Stages.{every}
 use Rattle.widths.specs.Widths.{editFits}
 use Rattle.endian.proofs.Numbers.{length-enc}
@@ -25,7 +26,7 @@ use Rattle.shown.proofs.Back.{shown-printed, met-holds}
 use Rattle.item_lines.specs.Raw.{byte}
 use Rattle.taking.specs.declared.Read.{Read}
 use Rattle.taking.specs.Run.{Reading}
-use Rattle.taking.specs.Taking.{rowNumbers, fault}
+use Rattle.taking.specs.Taking.{fault}
 use Rattle.storing.specs.Storing.{alone, Buffers, Stored}
 use Rattle.reading.specs.Input.{readInput}
 use Rattle.operating.specs.Operations.{listIn, sourceIn, sharedIn, tableIn, placesIn, operationIn, Stored as Lying}

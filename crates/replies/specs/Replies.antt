@@ -5,13 +5,14 @@ use mathlib.Core.Path.{_≡_}
 use Prim.Native.Nat.{ℕ}
 use lib.Dec.{eqb}
 use lib.ListN.{take}
+use Rattle.table.specs.Rows.{rowNumbers}
 use Rattle.item.specs.Items.{encode}
 use Rattle.request.specs.Answers.{Outcome, said}
 use Rattle.plan.specs.Plans.{Plan}
 use Rattle.plan.specs.Outputs.{Rooms, Outs}
 use Rattle.ample.specs.Ample.{enough}
 use Rattle.taking.specs.Run.{Reading}
-use Rattle.taking.specs.Taking.{rowNumbers, fault}
+use Rattle.taking.specs.Taking.{fault}
 use Rattle.reading.specs.Input.{readInput}
 use Rattle.operating.specs.Operations.{operation}
 use Rattle.printing.specs.Lines.{faultLine}

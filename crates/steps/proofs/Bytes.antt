@@ -14,8 +14,7 @@ use Rattle.item.specs.Items.{Fields, decode, encode, items}
 use Rattle.segment.proofs.Buffer.{length-encode}
 use Rattle.item.proofs.Runs.{decode-encode}
 use Rattle.table.specs.declared.Row.{Row}
-use Rattle.table.specs.Rows.{rowOf, rows}
-use Rattle.applying.specs.Lent.{rowNumbers}
+use Rattle.table.specs.Rows.{rowOf, rows, rowNumbers}
 use Rattle.plan.specs.Outputs.{laid}
 use Rattle.lines.proofs.Laws.{length-flat}
 use Rattle.lines.proofs.Again.{lines-read}

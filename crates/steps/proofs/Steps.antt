@@ -12,14 +12,13 @@ use Rattle.records.proofs.Lists.{every-flat}
 use Rattle.item.specs.Items.{Fields, encode}
 use Rattle.segment.proofs.Buffer.{length-encode}
 use Rattle.table.specs.declared.Row.{Row}
-use Rattle.table.specs.Rows.{rows}
+use Rattle.table.specs.Rows.{rows, rowNumbers}
 use Rattle.request.specs.Answers.{Outcome, plan, nothing, refused}
 use Rattle.cut.specs.Pieces.{itemsOf, kept}
 use Rattle.cut.specs.Edits.{Edit, put, delete, putOf, edited, itemsAfter}
 use Rattle.cut.proofs.Kept.{every-insertAll}
 use Rattle.plan.specs.Plans.{Plan}
 use Rattle.applying.specs.Apply.{Applying, applied}
-use Rattle.applying.specs.Lent.{rowNumbers}
 use Rattle.applying.proofs.Rows.{apply-cases}
 use Rattle.widths.specs.Widths.{fieldsFit, editFits}
 use Rattle.widths.proofs.Operations.{records-fit}

@@ -6,6 +6,7 @@ use Prim.Native.Nat.{ℕ, _+_, _≤_, _<_}
 use native.Mathlib.Omega.{arith}
 use lib.Dec.{eqb}
 use lib.ListN.{length, take-append-drop}
+use Rattle.table.specs.Rows.{rowNumbers}
 use Rattle.endian.proofs.Numbers.{length-enc}
 use Rattle.records.specs.Select.{only}
 use Rattle.item.specs.Items.{Fields, encode}
@@ -15,7 +16,7 @@ use Rattle.lines.proofs.Laws.{lay-nil, lay-append, length-lay}
 use Rattle.item_lines.specs.Raw.{byte}
 use Rattle.taking.specs.declared.Read.{Read}
 use Rattle.taking.specs.Order.{next}
-use Rattle.taking.specs.Taking.{rowNumbers, comes, begin, takenTo, taken, itemsIn, sharedIn, rowsIn, placesIn}
+use Rattle.taking.specs.Taking.{comes, begin, takenTo, taken, itemsIn, sharedIn, rowsIn, placesIn}
 use Rattle.taking.specs.Run.{after, along, readingOf}
 use Rattle.taking.specs.Few.{Few}
 use Rattle.storing.specs.Storing.{alone, Buffers, Took, Stored}

@@ -2,12 +2,13 @@
 use mathlib.Core.List.{List, [], _∷_, _++_}
 use mathlib.Core.Path.{_≡_}
 use Prim.Native.Nat.{ℕ}
+use Rattle.table.specs.Rows.{rowNumbers}
 use Rattle.item.specs.Items.{encode}
 use Rattle.lines.specs.Lines.{lay}
 use Rattle.item_lines.specs.Raw.{byte}
 use Rattle.taking.specs.declared.Read.{Read}
 use Rattle.taking.specs.Run.{Reading}
-use Rattle.taking.specs.Taking.{rowNumbers, taken, itemsIn, sharedIn, rowsIn, placesIn}
+use Rattle.taking.specs.Taking.{taken, itemsIn, sharedIn, rowsIn, placesIn}
 
 -- a place as its number
 abbrev pub alone : ℕ → List ℕ

@@ -15,6 +15,10 @@ use Rattle.table.specs.declared.Found.the-variants.{At, Missing}
 unfoldable pub rowOf : List ℕ → Row
 rowOf t = record { start = getD t 0 0; length = getD t 1 0; references = getD t 2 0; made = getD t 3 0; keyed = getD t 4 0 }
 
+-- a row's five numbers
+abbrev pub rowNumbers : Row → List ℕ
+rowNumbers r = r .start ∷ r .length ∷ r .references ∷ r .made ∷ r .keyed ∷ []
+
 unfoldable pub rows : List ℕ → List Row
 rows t = records rowOf 5 t
 

@@ -1,6 +1,6 @@
 -- What one line of an input adds to what was read before it (document 01, "extplan").
 use mathlib.Core.Bool.{Bool, true, false, cond, _&&_, not}
-use mathlib.Core.List.{List, [], _∷_}
+use mathlib.Core.List.{List}
 use Prim.Native.Nat.{ℕ, _+_}
 use lib.Dec.{eqb}
 use lib.ListN.{getD}
@@ -50,10 +50,6 @@ sharedOf v = getD v 11 0
 -- "(extent (at 1048576) (len 16384) (refs 1) (made 5) (keyed 0))"
 abbrev pub rowOf : List ℕ → Row
 rowOf v = record { start = getD v 0 0; length = getD v 1 0; references = getD v 2 0; made = getD v 3 0; keyed = getD v 4 0 }
-
--- a row's five numbers
-abbrev pub rowNumbers : Row → List ℕ
-rowNumbers r = r .start ∷ r .length ∷ r .references ∷ r .made ∷ r .keyed ∷ []
 
 -- "(place N)"
 abbrev pub placeOf : List ℕ → ℕ

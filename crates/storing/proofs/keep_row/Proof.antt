@@ -1,4 +1,5 @@
-use Rattle.taking.specs.Taking.{rowOf, rowNumbers}
+use Rattle.table.specs.Rows.{rowNumbers}
+use Rattle.taking.specs.Taking.{rowOf}
 use Rattle.item_lines.proofs.Laws.{kept-none, kept-full, kept-one}
 use borrow.Author.Tests.{not-true, not-false}
 use native.Mathlib.Omega.{arith}
