@@ -1,4 +1,5 @@
-// Our side: the proved operations, linked from libffi.a (crate `ffi`: numbers and slices in, a byte and nine numbers out).
+// Our side: the proved operations and applying, linked from libzagxuli.a (include/zagxuli.h).
+use crate::applying::Call;
 use crate::lent::Lent;
 use crate::oracle::{Op, Outcome, Plan};
 extern "C" {
@@ -23,9 +24,15 @@ extern "C" {
         releases: *mut u64, releases_n: u64,
         answer: *mut u64, answer_n: u64,
     ) -> u8;
+    fn zag_apply(
+        sector: u64, generation: u64, number: u64, items: u64, rows: u64, list: *mut u8, list_n: u64, table: *mut u64, table_n: u64,
+        edits: *const u8, edits_n: u64, shares: *const u64, shares_n: u64, unrefs: *const u64, unrefs_n: u64,
+        releases: *const u64, releases_n: u64, adds: *const u64, adds_n: u64,
+        answer: *mut u64, answer_n: u64,
+    ) -> u8;
 }
 const E: u8 = 0xa5;
-const W: u64 = 0xa5a5_5a5a_1234_4321;
+pub const W: u64 = 0xa5a5_5a5a_1234_4321;
 /// The outcome with outputs of these lengths (edits in bytes, the others in numbers), and what is broken about the outputs.
 pub fn run(l: &Lent, rooms: [usize; 6]) -> (Outcome, Option<String>) { with_answer(l, rooms, 12) }
 /// The same with so many numbers of `answer`.
@@ -92,4 +99,17 @@ pub fn with_answer(l: &Lent, rooms: [usize; 6], numbers: usize) -> (Outcome, Opt
     p.adds = o[3][..used[4]].chunks(3).map(|c| [c[0], c[1], c[2]]).collect();
     p.writes = o[4][..used[5]].chunks(4).map(|c| [c[0], c[1], c[2], c[3]]).collect();
     (Outcome::Plan(p), bad)
+}
+/// Applying: the byte, and the list, the table and `answer` after it.
+pub fn apply(c: &Call) -> (u8, Vec<u8>, Vec<u64>, Vec<u64>) {
+    let (mut list, mut table, mut a) = (c.list.clone(), c.table.clone(), vec![W; c.answer]);
+    let code = unsafe {
+        zag_apply(
+            c.sector, c.generation, c.number, c.items as u64, c.rows as u64, list.as_mut_ptr(), list.len() as u64, table.as_mut_ptr(), table.len() as u64,
+            c.edits.as_ptr(), c.edits.len() as u64, c.shares.as_ptr(), c.shares.len() as u64, c.unrefs.as_ptr(), c.unrefs.len() as u64,
+            c.releases.as_ptr(), c.releases.len() as u64, c.adds.as_ptr(), c.adds.len() as u64,
+            a.as_mut_ptr(), a.len() as u64,
+        )
+    };
+    (code, list, table, a)
 }
