@@ -6,7 +6,7 @@ pub struct Time { pub nanos: f64, pub samples: usize }
 const BUDGET: Duration = Duration::from_millis(1500);
 const MOST: usize = 501;
 /// A sample of a short call is of many calls.
-const SAMPLE: Duration = Duration::from_micros(50);
+const SAMPLE: Duration = Duration::from_millis(1);
 /// `f` makes so many calls and gives their time, without what lies between them.
 pub fn clock(mut f: impl FnMut(usize) -> Duration) -> Time {
     let start = Instant::now();

@@ -63,36 +63,43 @@ fn rust(r: &Request) -> Time {
         d
     })
 }
-/// What of it the stub takes to hand over the items, a `Vec` each.
-fn handing(r: &Request) -> Time {
+/// What of it two stubs take: items handed over, a `Vec` each, and the lent places tested, for extents of these lengths.
+fn stubs(r: &Request, wanted: &[u64]) -> Time {
     let fs = oracle::volume(r);
-    clock(|k| { let t = Instant::now(); for _ in 0..k { for f in &r.facts.files { black_box(fs.items_of(f.ino).is_ok()); } } t.elapsed() })
+    clock(|k| {
+        let t = Instant::now();
+        for _ in 0..k {
+            for f in &r.facts.files { black_box(fs.items_of(f.ino).is_ok()); }
+            if !wanted.is_empty() { black_box(fs.find_data_extents(wanted).is_ok()); }
+        }
+        t.elapsed()
+    })
 }
 fn pass(l: &Lent) -> Time {
     clock(|k| { let t = Instant::now(); for _ in 0..k { black_box(pass::read(black_box(l))); } t.elapsed() })
 }
-/// A workload's answer on both sides; they must be alike before anything is timed.
-fn alike(name: &str, n: usize, r: &Request, l: &Lent, due: workloads::Due) -> Outcome {
+/// A workload's answer on both sides, which must be alike before anything is timed, and the lengths of the extents wanted.
+fn alike(name: &str, n: usize, r: &Request, l: &Lent, due: workloads::Due) -> (Outcome, Vec<u64>) {
     let (us, bad) = ours::run(l, rooms(l));
     if let Some(why) = bad { panic!("{name} of {n}: {why}"); }
-    let theirs = match due { workloads::Due::Ours(k) => Outcome::Refused(k), _ => oracle::run(r).0 };
+    let (theirs, wanted) = match due { workloads::Due::Ours(k) => (Outcome::Refused(k), Vec::new()), _ => oracle::run(r) };
     if us != theirs { panic!("{name} of {n}: the answers differ"); }
     match (&us, due) {
         (Outcome::Plan(p), workloads::Due::Lines(k)) => assert_eq!(workloads::lines(p), k, "{name} of {n}: lines"),
         (Outcome::Refused(k), workloads::Due::Refused(j) | workloads::Due::Ours(j)) => assert_eq!(*k, j, "{name} of {n}"),
         _ => panic!("{name} of {n}: another kind of answer"),
     }
-    us
+    (us, wanted)
 }
 /// The times of one workload at one size.
-struct Figures { name: String, records: usize, ours: Time, rust: Option<Time>, handing: Option<Time>, pass: Option<Time>, growth: Option<f64> }
+struct Figures { name: String, records: usize, ours: Time, rust: Option<Time>, stubs: Option<Time>, pass: Option<Time>, growth: Option<f64> }
 impl Figures {
     fn ratio(&self) -> Option<f64> { self.rust.as_ref().map(|r| r.nanos / self.ours.nanos) }
     fn passes(&self) -> Option<f64> { self.pass.as_ref().map(|p| self.ours.nanos / p.nanos) }
     fn print(&self) {
         let time = |t: &Option<Time>| t.as_ref().map_or("-".into(), shown);
         let number = |x: Option<f64>| x.map_or("-".into(), |x| if x < 0.1 { format!("{x:.4}") } else { format!("{x:.2}") });
-        line(&self.name, [&self.records.to_string(), &shown(&self.ours), &time(&self.rust), &number(self.ratio()), &time(&self.handing), &time(&self.pass), &number(self.passes()), &number(self.growth)]);
+        line(&self.name, [&self.records.to_string(), &shown(&self.ours), &time(&self.rust), &number(self.ratio()), &time(&self.stubs), &time(&self.pass), &number(self.passes()), &number(self.growth)]);
     }
 }
 fn line(name: &str, columns: [&str; 8]) {
@@ -118,7 +125,14 @@ fn main() {
     let a: Vec<String> = std::env::args().collect();
     let sizes: Vec<usize> = match a.get(1).map(|s| s.as_str()) { None | Some("all") => vec![16, 256, 4096, 65536], Some(s) => s.split(',').map(|x| x.parse().expect("a number of records")).collect() };
     let only = a.get(2).map(|s| s.as_str()).unwrap_or("");
-    line("workload", ["records", "ours", "Rust", "Rust/ours", "handing", "one pass", "ours/pass", "growth"]);
+    // a third word `ours`: our calls alone, for a profiler
+    if a.get(3).is_some_and(|w| w == "ours") {
+        for w in workloads::ALL.iter().filter(|w| w.name.contains(only)) {
+            for &n in &sizes { println!("{} at {n}: {}", w.name, shown(&ours(&Lent::new(&(w.make)(n))))); }
+        }
+        return;
+    }
+    line("workload", ["records", "ours", "Rust", "Rust/ours", "stubs", "one pass", "ours/pass", "growth"]);
     let mut all: Vec<Figures> = Vec::new();
     let mut add = |mut f: Figures| {
         f.growth = all.iter().find(|g: &&Figures| g.name == f.name && g.records * 16 == f.records).map(|g| f.ours.nanos / g.ours.nanos);
@@ -130,14 +144,14 @@ fn main() {
             let r = (w.make)(records);
             let l = Lent::new(&r);
             let due = (w.due)(records);
-            let answer = alike(w.name, records, &r, &l, due);
+            let (answer, wanted) = alike(w.name, records, &r, &l, due);
             let beside = !matches!(due, workloads::Due::Ours(_));
             add(Figures {
-                name: w.name.into(), records, ours: ours(&l), rust: beside.then(|| rust(&r)), handing: beside.then(|| handing(&r)), pass: w.pass.then(|| pass(&l)), growth: None,
+                name: w.name.into(), records, ours: ours(&l), rust: beside.then(|| rust(&r)), stubs: beside.then(|| stubs(&r, &wanted)), pass: w.pass.then(|| pass(&l)), growth: None,
             });
             let Outcome::Plan(p) = answer else { continue };
             let Some((o, t)) = applying::times(&r, &l, &p) else { continue };
-            add(Figures { name: format!("  {}, applied", w.name), records, ours: o, rust: Some(t), handing: None, pass: None, growth: None });
+            add(Figures { name: format!("  {}, applied", w.name), records, ours: o, rust: Some(t), stubs: None, pass: None, growth: None });
         }
     }
     missed(&all);

@@ -27,16 +27,17 @@ extern "C" {
 const E: u8 = 0xa5;
 const W: u64 = 0xa5a5_5a5a_1234_4321;
 /// Outputs (edits in bytes, the others in numbers) and `answer`, filled with what no call may touch past its plan.
-pub struct Outputs { pub edits: Vec<u8>, pub lines: Vec<Vec<u64>>, pub answer: Vec<u64> }
+pub struct Outputs { pub edits: Vec<u8>, pub lines: [Vec<u64>; 5], pub answer: Vec<u64> }
 impl Outputs {
     pub fn new(rooms: [usize; 6], numbers: usize) -> Outputs {
-        Outputs { edits: vec![E; rooms[0]], lines: (1..6).map(|i| vec![W; rooms[i]]).collect(), answer: vec![W; numbers] }
+        Outputs { edits: vec![E; rooms[0]], lines: [1, 2, 3, 4, 5].map(|i| vec![W; rooms[i]]), answer: vec![W; numbers] }
     }
     /// One call, and its byte: 0 a plan, 100 nothing, else the refusal.
     pub fn call(&mut self, l: &Lent) -> u8 {
+        let out = |v: &mut Vec<u64>| (v.as_mut_ptr(), v.len() as u64);
         let (e, en) = (self.edits.as_mut_ptr(), self.edits.len() as u64);
-        let [(s, sn), (u, un), (r, rn), (d, dn), (w, wn)] = [0, 1, 2, 3, 4].map(|i: usize| (self.lines[i].as_mut_ptr(), self.lines[i].len() as u64));
-        let (a, an) = (self.answer.as_mut_ptr(), self.answer.len() as u64);
+        let [s, u, r, d, w] = &mut self.lines;
+        let ((s, sn), (u, un), (r, rn), (d, dn), (w, wn), (a, an)) = (out(s), out(u), out(r), out(d), out(w), out(&mut self.answer));
         macro_rules! call {
             ($f:ident, $offset:expr, $length:expr $(, $keep:expr)?) => {
                 $f(
