@@ -24,7 +24,7 @@ mod ours;
 #[path = "../../oracle/src/gen.rs"]
 #[allow(dead_code)]
 mod gen;
-mod applying;
+mod applied;
 mod clock;
 mod pass;
 mod workloads;
@@ -150,7 +150,7 @@ fn main() {
                 name: w.name.into(), records, ours: ours(&l), rust: beside.then(|| rust(&r)), stubs: beside.then(|| stubs(&r, &wanted)), pass: w.pass.then(|| pass(&l)), growth: None,
             });
             let Outcome::Plan(p) = answer else { continue };
-            let Some((o, t)) = applying::times(&r, &l, &p) else { continue };
+            let Some((o, t)) = applied::times(&r, &l, &p) else { continue };
             add(Figures { name: format!("  {}, applied", w.name), records, ours: o, rust: Some(t), stubs: None, pass: None, growth: None });
         }
     }
