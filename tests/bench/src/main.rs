@@ -21,6 +21,9 @@ mod lent;
 #[path = "../../oracle/src/ours.rs"]
 #[allow(dead_code)]
 mod ours;
+#[path = "../../oracle/src/applying.rs"]
+#[allow(dead_code)]
+mod applying;
 #[path = "../../oracle/src/gen.rs"]
 #[allow(dead_code)]
 mod gen;

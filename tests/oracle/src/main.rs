@@ -1,5 +1,5 @@
 // The Rust as extplan (`src/extplan.rs`), random inputs for it (`src/texts.rs`) and, with our side linked (cfg ours), both compared on
-// bytes (`src/fuzz.rs`, `src/broken.rs`). README.md says how each is called.
+// bytes (`src/fuzz.rs`, `src/broken.rs`, `src/applies.rs`). README.md says how each is called.
 mod stubs;
 pub use stubs::*;
 #[path = "../sources/clone.rs"]
@@ -29,9 +29,13 @@ mod texts;
 mod ours;
 #[cfg(ours)]
 mod fuzz;
+#[cfg(ours)]
+mod applying;
+#[cfg(ours)]
+mod applies;
 
 const USE: &str = "oracle extplan|text <INPUT | gen|sample SEED COUNT | through PROGRAM <INPUTS | compare ANSWERS [counts] <INPUTS
-oracle fuzz|bytes SEED COUNT [fallocate|clone] | large SEED COUNT [clone]   (built with libffi.a)";
+oracle fuzz|bytes SEED COUNT [fallocate|clone] | large SEED COUNT [clone] | applies SEED COUNT [large]   (built with libzagxuli.a)";
 fn main() {
     std::panic::set_hook(Box::new(|_| {}));
     let a: Vec<String> = std::env::args().collect();
@@ -42,6 +46,7 @@ fn main() {
         "" => (gen::punch as fn(&mut gen::Rng) -> oracle::Request, gen::large as fn(&mut gen::Rng) -> oracle::Request),
         "fallocate" => (gen::fallocate as _, gen::large as _),
         "clone" => (clones::clone as _, clones::large as _),
+        "large" if word(1) == "applies" => (gen::punch as _, gen::large as _),
         w => { eprintln!("no requests of {w}"); std::process::exit(2) }
     };
     match word(1) {
@@ -51,6 +56,8 @@ fn main() {
         "large" => fuzz::fuzz(large, number(2), number(3)),
         #[cfg(ours)]
         "bytes" => broken::fuzz(make, number(2), number(3)),
+        #[cfg(ours)]
+        "applies" => applies::fuzz(if word(4) == "large" { applies::large } else { applies::any }, number(2), number(3)),
         "extplan" => extplan::one(),
         "text" => extplan::text(),
         "through" => extplan::through(word(2)),

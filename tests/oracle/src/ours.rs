@@ -1,4 +1,5 @@
-// Our side: the proved operations, linked from libffi.a (crate `ffi`: numbers and slices in, a byte and nine numbers out).
+// Our side: the proved operations and applying, linked from libzagxuli.a (include/zagxuli.h).
+use crate::applying::Call;
 use crate::lent::Lent;
 use crate::oracle::{Op, Outcome, Plan};
 extern "C" {
@@ -23,9 +24,15 @@ extern "C" {
         releases: *mut u64, releases_n: u64,
         answer: *mut u64, answer_n: u64,
     ) -> u8;
+    fn zag_apply(
+        sector: u64, generation: u64, number: u64, items: u64, rows: u64, list: *mut u8, list_n: u64, table: *mut u64, table_n: u64,
+        edits: *const u8, edits_n: u64, shares: *const u64, shares_n: u64, unrefs: *const u64, unrefs_n: u64,
+        releases: *const u64, releases_n: u64, adds: *const u64, adds_n: u64,
+        answer: *mut u64, answer_n: u64,
+    ) -> u8;
 }
 const E: u8 = 0xa5;
-const W: u64 = 0xa5a5_5a5a_1234_4321;
+pub const W: u64 = 0xa5a5_5a5a_1234_4321;
 /// Outputs (edits in bytes, the others in numbers) and `answer`, filled with what no call may touch past its plan.
 pub struct Outputs { pub edits: Vec<u8>, pub lines: [Vec<u64>; 5], pub answer: Vec<u64> }
 impl Outputs {
@@ -103,4 +110,21 @@ pub fn with_answer(l: &Lent, rooms: [usize; 6], numbers: usize) -> (Outcome, Opt
     p.adds = o[3][..used[4]].chunks(3).map(|c| [c[0], c[1], c[2]]).collect();
     p.writes = o[4][..used[5]].chunks(4).map(|c| [c[0], c[1], c[2], c[3]]).collect();
     (Outcome::Plan(p), bad)
+}
+/// Applying to a list, a table and an `answer` that are there, and its byte.
+pub fn apply_to(c: &Call, list: &mut [u8], table: &mut [u64], answer: &mut [u64]) -> u8 {
+    unsafe {
+        zag_apply(
+            c.sector, c.generation, c.number, c.items as u64, c.rows as u64, list.as_mut_ptr(), list.len() as u64, table.as_mut_ptr(), table.len() as u64,
+            c.edits.as_ptr(), c.edits.len() as u64, c.shares.as_ptr(), c.shares.len() as u64, c.unrefs.as_ptr(), c.unrefs.len() as u64,
+            c.releases.as_ptr(), c.releases.len() as u64, c.adds.as_ptr(), c.adds.len() as u64,
+            answer.as_mut_ptr(), answer.len() as u64,
+        )
+    }
+}
+/// Applying: the byte, and the list, the table and `answer` after it.
+pub fn apply(c: &Call) -> (u8, Vec<u8>, Vec<u64>, Vec<u64>) {
+    let (mut list, mut table, mut a) = (c.list.clone(), c.table.clone(), vec![W; c.answer]);
+    let code = apply_to(c, &mut list, &mut table, &mut a);
+    (code, list, table, a)
 }
