@@ -54,7 +54,7 @@ fn number(e: Error) -> u8 {
 
 fn plan_of(r: &Request, c: Captured) -> Outcome {
     let Some(w) = c.write else { return Outcome::Nothing };
-    let len_of = |at: u64| r.facts.rows.iter().find(|x| x[0] == at).map(|x| x[1]);
+    let len_of = |at: u64| r.facts.rows.binary_search_by_key(&at, |x| x[0]).ok().map(|i| r.facts.rows[i][1]);
     let mut p = Plan::default();
     let (last, edits) = w.edits.split_last().expect("the inode's put");
     let ItemEdit::Put(inode) = last else { panic!("the inode's put") };
@@ -96,18 +96,26 @@ pub fn run(r: &Request) -> (Outcome, Vec<u64>) {
     }
     (theirs, wanted)
 }
+/// The stubs' volume with the facts of a request.
+pub fn volume(r: &Request) -> Filesystem {
+    Filesystem {
+        writable: Some(()), subvolume_writes: None, fs_tree_root: 0, facts: r.facts.clone(), captured: Default::default(),
+        sb: Superblock { sectorsize: r.sector as u32, total_bytes: r.total, root: 0 },
+    }
+}
+/// The Rust's own function, called.
+pub fn ask(fs: &mut Filesystem, r: &Request) -> crate::error::Result<()> {
+    let dst = r.facts.files[0].ino;
+    match r.op {
+        Op::Punch(o, n) => fs.punch_hole(dst, o, n),
+        Op::Fallocate(o, n, keep) => fs.fallocate(dst, o, n, keep),
+        Op::Clone(from, to, n) => fs.clone_range(r.facts.files.last().unwrap().ino, from, dst, to, n),
+    }
+}
 fn rust(r: &Request) -> (Outcome, Vec<u64>) {
     let got = std::panic::catch_unwind(|| {
-        let mut fs = Filesystem {
-            writable: Some(()), subvolume_writes: None, fs_tree_root: 0, facts: r.facts.clone(), captured: Default::default(),
-            sb: Superblock { sectorsize: r.sector as u32, total_bytes: r.total, root: 0 },
-        };
-        let dst = r.facts.files[0].ino;
-        let done = match r.op {
-            Op::Punch(o, n) => fs.punch_hole(dst, o, n),
-            Op::Fallocate(o, n, keep) => fs.fallocate(dst, o, n, keep),
-            Op::Clone(from, to, n) => fs.clone_range(r.facts.files.last().unwrap().ino, from, dst, to, n),
-        };
+        let mut fs = volume(r);
+        let done = ask(&mut fs, r);
         (done, fs.captured.into_inner())
     });
     match got {

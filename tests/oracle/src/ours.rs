@@ -33,36 +33,47 @@ extern "C" {
 }
 const E: u8 = 0xa5;
 pub const W: u64 = 0xa5a5_5a5a_1234_4321;
-/// The outcome with outputs of these lengths (edits in bytes, the others in numbers), and what is broken about the outputs.
-pub fn run(l: &Lent, rooms: [usize; 6]) -> (Outcome, Option<String>) { with_answer(l, rooms, 12) }
-/// The same with so many numbers of `answer`.
-pub fn with_answer(l: &Lent, rooms: [usize; 6], numbers: usize) -> (Outcome, Option<String>) {
-    let mut e = vec![E; rooms[0]];
-    let mut o: Vec<Vec<u64>> = (1..6).map(|i| vec![W; rooms[i]]).collect();
-    let mut a = vec![W; numbers];
-    let code = unsafe {
-        let p: Vec<*mut u64> = o.iter_mut().map(|v| v.as_mut_ptr()).collect();
+/// Outputs (edits in bytes, the others in numbers) and `answer`, filled with what no call may touch past its plan.
+pub struct Outputs { pub edits: Vec<u8>, pub lines: [Vec<u64>; 5], pub answer: Vec<u64> }
+impl Outputs {
+    pub fn new(rooms: [usize; 6], numbers: usize) -> Outputs {
+        Outputs { edits: vec![E; rooms[0]], lines: [1, 2, 3, 4, 5].map(|i| vec![W; rooms[i]]), answer: vec![W; numbers] }
+    }
+    /// One call, and its byte: 0 a plan, 100 nothing, else the refusal.
+    pub fn call(&mut self, l: &Lent) -> u8 {
+        let out = |v: &mut Vec<u64>| (v.as_mut_ptr(), v.len() as u64);
+        let (e, en) = (self.edits.as_mut_ptr(), self.edits.len() as u64);
+        let [s, u, r, d, w] = &mut self.lines;
+        let ((s, sn), (u, un), (r, rn), (d, dn), (w, wn), (a, an)) = (out(s), out(u), out(r), out(d), out(w), out(&mut self.answer));
         macro_rules! call {
             ($f:ident, $offset:expr, $length:expr $(, $keep:expr)?) => {
                 $f(
                     l.sector, l.total, l.generation, l.snapshot, l.ino, l.size, l.nodatacow, $offset, $length $(, $keep)?,
                     l.list.as_ptr(), l.list.len() as u64, l.shared.as_ptr(), l.shared.len() as u64, l.table.as_ptr(), l.table.len() as u64, l.places.as_ptr(), l.places.len() as u64,
-                    e.as_mut_ptr(), rooms[0] as u64, p[0], rooms[1] as u64, p[1], rooms[2] as u64, p[2], rooms[3] as u64, p[3], rooms[4] as u64, p[4], rooms[5] as u64,
-                    a.as_mut_ptr(), numbers as u64,
+                    e, en, s, sn, u, un, r, rn, d, dn, w, wn, a, an,
                 )
             };
         }
-        match l.op {
-            Op::Punch(o, n) => call!(zag_punch, o, n),
-            Op::Fallocate(o, n, keep) => call!(zag_fallocate, o, n, keep),
-            Op::Clone(from, to, n) => zag_clone(
-                l.sector, l.total, l.generation, l.snapshot, l.ino, l.size, l.source_ino, l.source_size, l.own, from, to, n,
-                l.list.as_ptr(), l.list.len() as u64, l.shared.as_ptr(), l.shared.len() as u64, l.source.as_ptr(), l.source.len() as u64, l.table.as_ptr(), l.table.len() as u64,
-                e.as_mut_ptr(), rooms[0] as u64, p[0], rooms[1] as u64, p[1], rooms[2] as u64, p[2], rooms[3] as u64,
-                a.as_mut_ptr(), numbers as u64,
-            ),
+        unsafe {
+            match l.op {
+                Op::Punch(o, n) => call!(zag_punch, o, n),
+                Op::Fallocate(o, n, keep) => call!(zag_fallocate, o, n, keep),
+                Op::Clone(from, to, n) => zag_clone(
+                    l.sector, l.total, l.generation, l.snapshot, l.ino, l.size, l.source_ino, l.source_size, l.own, from, to, n,
+                    l.list.as_ptr(), l.list.len() as u64, l.shared.as_ptr(), l.shared.len() as u64, l.source.as_ptr(), l.source.len() as u64, l.table.as_ptr(), l.table.len() as u64,
+                    e, en, s, sn, u, un, r, rn, a, an,
+                ),
+            }
         }
-    };
+    }
+}
+/// The outcome with outputs of these lengths, and what is broken about the outputs.
+pub fn run(l: &Lent, rooms: [usize; 6]) -> (Outcome, Option<String>) { with_answer(l, rooms, 12) }
+/// The same with so many numbers of `answer`.
+pub fn with_answer(l: &Lent, rooms: [usize; 6], numbers: usize) -> (Outcome, Option<String>) {
+    let mut outputs = Outputs::new(rooms, numbers);
+    let code = outputs.call(l);
+    let Outputs { edits: e, lines: o, answer: a } = outputs;
     let untouched = |from: [usize; 6]| -> Option<String> {
         if e[from[0]..].iter().any(|b| *b != E) { return Some("edits past the plan changed".into()); }
         for i in 0..5 { if o[i][from[i + 1]..].iter().any(|b| *b != W) { return Some(format!("output {} past the plan changed", i + 1)); } }
@@ -100,16 +111,20 @@ pub fn with_answer(l: &Lent, rooms: [usize; 6], numbers: usize) -> (Outcome, Opt
     p.writes = o[4][..used[5]].chunks(4).map(|c| [c[0], c[1], c[2], c[3]]).collect();
     (Outcome::Plan(p), bad)
 }
-/// Applying: the byte, and the list, the table and `answer` after it.
-pub fn apply(c: &Call) -> (u8, Vec<u8>, Vec<u64>, Vec<u64>) {
-    let (mut list, mut table, mut a) = (c.list.clone(), c.table.clone(), vec![W; c.answer]);
-    let code = unsafe {
+/// Applying to a list, a table and an `answer` that are there, and its byte.
+pub fn apply_to(c: &Call, list: &mut [u8], table: &mut [u64], answer: &mut [u64]) -> u8 {
+    unsafe {
         zag_apply(
             c.sector, c.generation, c.number, c.items as u64, c.rows as u64, list.as_mut_ptr(), list.len() as u64, table.as_mut_ptr(), table.len() as u64,
             c.edits.as_ptr(), c.edits.len() as u64, c.shares.as_ptr(), c.shares.len() as u64, c.unrefs.as_ptr(), c.unrefs.len() as u64,
             c.releases.as_ptr(), c.releases.len() as u64, c.adds.as_ptr(), c.adds.len() as u64,
-            a.as_mut_ptr(), a.len() as u64,
+            answer.as_mut_ptr(), answer.len() as u64,
         )
-    };
+    }
+}
+/// Applying: the byte, and the list, the table and `answer` after it.
+pub fn apply(c: &Call) -> (u8, Vec<u8>, Vec<u64>, Vec<u64>) {
+    let (mut list, mut table, mut a) = (c.list.clone(), c.table.clone(), vec![W; c.answer]);
+    let code = apply_to(c, &mut list, &mut table, &mut a);
     (code, list, table, a)
 }

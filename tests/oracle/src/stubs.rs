@@ -1,5 +1,6 @@
 // Stand-ins for what is not there: everything that fallocate.rs, clone.rs and write.rs name, and nothing else.
-// Each stub answers from `Filesystem::facts`, and the commit is captured in `Filesystem::captured`.
+// Each stub answers from `Filesystem::facts`, and the commit is captured in `Filesystem::captured`. Rows and items rise, as the
+// checks before the Rust is asked say (1 to 4), so look-ups go by halves: as quick as a tree's, which tests/bench needs.
 pub mod error {
     #[derive(Debug)]
     #[allow(dead_code)]
@@ -102,7 +103,8 @@ pub mod fs {
     impl<'a> Reader<'a> { pub fn tree(&self) -> Tree<'a> { Tree(self.0) } }
     impl Tree<'_> {
         pub fn find_all(&self, _root: u64, bytenr: u64, kind: u8) -> Result<Vec<Item>> {
-            let Some(r) = self.0.rows.iter().find(|r| r[0] == bytenr) else { return Ok(Vec::new()) };
+            let Ok(i) = self.0.rows.binary_search_by_key(&bytenr, |r| r[0]) else { return Ok(Vec::new()) };
+            let r = self.0.rows[i];
             let item = |data: Vec<u8>| vec![Item { key: DiskKey { objectid: bytenr, key_type: kind, offset: r[1] }, data }];
             if kind == crate::chunk::key_type::EXTENT_ITEM {
                 let mut data = r[2].to_le_bytes().to_vec();
@@ -137,7 +139,7 @@ pub mod fs {
         pub fn root_last_snapshot(&self, _tree: u64) -> Result<u64> { Ok(self.facts.snapshot) }
         pub fn leaf_shared(&self, _tree: u64, k: &DiskKey) -> Result<bool> {
             let f = self.file(k.objectid);
-            let i = f.items.iter().position(|(key, _)| *key == k.offset).expect("leaf of an item that is there");
+            let i = f.items.binary_search_by_key(&k.offset, |x| x.0).expect("leaf of an item that is there");
             Ok(f.shared[i] == 1)
         }
         /// The places lent, where they are as many as wanted and all free: refusal 26 as document 01 words it.
@@ -145,12 +147,10 @@ pub mod fs {
             self.captured.borrow_mut().wanted = lens.to_vec();
             let Some(places) = &self.facts.places else { return Ok((1..=lens.len() as u64).map(|n| n << 40).collect()) };
             if places.len() != lens.len() { return Err(Error::Stub(26)); }
-            let mut taken: Vec<(u128, u128)> = self.facts.rows.iter().map(|r| (r[0] as u128, r[0] as u128 + r[1] as u128)).collect();
-            for (&p, &n) in places.iter().zip(lens) {
-                let (a, b) = (p as u128, p as u128 + n as u128);
-                if p == 0 || b > u64::MAX as u128 || taken.iter().any(|&(s, e)| a < e && s < b) { return Err(Error::Stub(26)); }
-                taken.push((a, b));
-            }
+            if places.iter().zip(lens).any(|(&p, &n)| p == 0 || p.checked_add(n).is_none()) { return Err(Error::Stub(26)); }
+            let mut taken: Vec<(u64, u64)> = self.facts.rows.iter().map(|r| (r[0], r[1])).chain(places.iter().copied().zip(lens.iter().copied())).collect();
+            taken.sort_unstable();
+            if taken.windows(2).any(|w| w[1].0 - w[0].0 < w[0].1) { return Err(Error::Stub(26)); }
             Ok(places.clone())
         }
         pub fn csum_edits(&self, _r: &[(u64, u64)], _w: &[(u64, Vec<u8>)], _s: bool) -> Result<Vec<ItemEdit>> { Ok(Vec::new()) }
