@@ -71,5 +71,5 @@ fn clone_all(n: usize) -> Request {
 fn refused_5(n: usize) -> Request { Request { op: Op::Punch(0, 0), ..punch_own(n) } }
 /// The holes are a byte more than the volume.
 fn refused_12(n: usize) -> Request { Request { total: end(n) - 1, ..fallocate_holes(n) } }
-/// Holes of 2^62 bytes and more, and as many places as records. The Rust would lay all pieces out first; it is not asked.
+/// Holes of nearly 2^62 bytes, and as many places as records. The Rust would lay all pieces out first; it is not asked.
 fn refused_26(n: usize) -> Request { Request { total: u64::MAX, op: Op::Fallocate(0, 1 << 62, true), ..fallocate_holes(n) } }
