@@ -202,7 +202,7 @@ pub fn records_refusal(list: &[u8]) -> u8
 {
     let n = list.len() / 70;
     for i in 0..n {
-        let why = record_refusal(item::item_at(list, i));
+        let why = record_refusal(reader::read_at(list, i));
         if why != 0 {
             return why;
         }

@@ -19,14 +19,14 @@ abbrev μ-loop : tie.MeasureT-loop
 loop-holds : tie.Need-loop-holds Inv-loop μ-loop
 loop-holds c = (omega arith, rw rest-items)
 
-item-at-requires : tie.Need-item-at-requires Inv-loop μ-loop
-item-at-requires c κs = omega arith
+read-at-requires : tie.Need-read-at-requires Inv-loop μ-loop
+read-at-requires c κs = omega arith
 
 record-refusal-requires : tie.Need-record-refusal-requires Inv-loop μ-loop
 record-refusal-requires c κs = search needs
 
 returns : tie.Need-returns Inv-loop μ-loop
-returns c = stage-stop decode 70 recordRefusal _ _ _ _ _ (omega arith) (item-decode _ _ (c .before .before .item-at .ensures)) (c .before .record-refusal .ensures) (c .if1 .taken) ∙ c .before .before .before .before .loop .inv .1
+returns c = stage-stop decode 70 recordRefusal _ _ _ _ _ (omega arith) (item-decode _ _ (c .before .before .read-at .ensures)) (c .before .record-refusal .ensures) (c .if1 .taken) ∙ c .before .before .before .before .loop .inv .1
 
 add-i : tie.Need-add-i Inv-loop μ-loop
 add-i c = omega arith
@@ -35,7 +35,7 @@ loop-less : tie.Need-loop-less Inv-loop μ-loop
 loop-less c = omega arith
 
 loop-again : tie.Need-loop-again Inv-loop μ-loop
-loop-again c = (omega arith, stage-turn decode 70 recordRefusal _ _ _ _ _ (omega arith) (item-decode _ _ (c .before .before .item-at .ensures)) (c .before .record-refusal .ensures) (c .if1 .left) ∙ c .before .before .before .before .loop .inv .1)
+loop-again c = (omega arith, stage-turn decode 70 recordRefusal _ _ _ _ _ (omega arith) (item-decode _ _ (c .before .before .read-at .ensures)) (c .before .record-refusal .ensures) (c .if1 .left) ∙ c .before .before .before .before .loop .inv .1)
 
 returns-2 : tie.Need-returns-2 Inv-loop μ-loop
 returns-2 c = stage-done decode 70 recordRefusal _ _ _ (c .loop-test .left) ∙ c .before .loop .inv .1
@@ -47,7 +47,7 @@ records-refusal-spec =
     Inv-loop
     μ-loop
     loop-holds
-    item-at-requires
+    read-at-requires
     record-refusal-requires
     returns
     add-i
