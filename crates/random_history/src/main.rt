@@ -1,20 +1,16 @@
 // A long pseudo-random history of calls on four files and one extents table, through the compiled operations and applying.
 // After each call the claims of demand 3 are checked on the bytes. It prints what happened in each round, and stops at a
 // claim that does not hold. The seed is fixed, so its output is too.
-mod between;
-mod calls;
 mod claims;
-mod ledgers;
-mod maps;
-mod numbers;
 mod runs;
-mod state;
 mod turns;
 
-use numbers::get;
-use numbers::put;
-use numbers::summed;
-use numbers::summed_bytes;
+use history_state::between;
+use history_state::numbers::get;
+use history_state::numbers::put;
+use history_state::numbers::summed;
+use history_state::numbers::summed_bytes;
+use history_state::state;
 
 fn text(s: &[u8]) {
     io::write_all(1, s);

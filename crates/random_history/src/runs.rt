@@ -1,16 +1,16 @@
 // One call: the compiled operation on the volume's bytes, with as many places as it wants, and applying.
-use crate::calls;
-use crate::calls::Call;
-use crate::calls::Lent;
-use crate::numbers::bytes_in;
-use crate::numbers::get;
-use crate::numbers::lead;
-use crate::numbers::lead_bytes;
-use crate::numbers::plus;
-use crate::numbers::put;
-use crate::numbers::put_byte;
-use crate::state;
 use apply::Applied;
+use history_state::calls;
+use history_state::calls::Call;
+use history_state::calls::Lent;
+use history_state::numbers::bytes_in;
+use history_state::numbers::get;
+use history_state::numbers::lead;
+use history_state::numbers::lead_bytes;
+use history_state::numbers::plus;
+use history_state::numbers::put;
+use history_state::numbers::put_byte;
+use history_state::state;
 use request::Answer;
 use request::Numbers;
 
