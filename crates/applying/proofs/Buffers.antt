@@ -3,7 +3,7 @@ use mathlib.Core.Path.{_≡_, refl, ap, ap₂, _∙_, sym}
 use mathlib.Core.List.{List, [], _∷_, _++_, flatMap, append-assoc}
 use Prim.Native.Nat.{ℕ, zero, suc, _+_, _-_, _*_, _/_, _<_, _≤_, min}
 use native.Mathlib.Omega.{arith}
-use native.Mathlib.Nat.{zero-add, zero-mul, suc-mul, mul-le-mul-right, mul-div-cancel, le-div-iff-mul-le, div-mul-le-self}
+use native.Mathlib.Nat.{zero-add, zero-mul, mul-le-mul-right, mul-div-cancel, le-div-iff-mul-le, div-mul-le-self}
 use native.Mathlib.Numerals.{add-one}
 use lib.ListN.{length, getD, take, drop, set, length-append, length-take, length-drop, length-set, take-append-drop}
 use lib.Seq.{drop-cons, drop-drop, drop-append-add, drop-set-lt, take-add, take-suc-set, getD-drop, getD-set-same}
@@ -11,7 +11,7 @@ use Rattle.endian.specs.Le.{put}
 use Rattle.endian.proofs.Puts.{length-put}
 use Rattle.records.specs.Records.{chunks, records}
 use Rattle.records.proofs.Loops.{records-length}
-use Rattle.records.proofs.Lists.{flat-append}
+use Rattle.records.proofs.Lists.{flat-append, flat-drop}
 use Rattle.segment.proofs.Spans.{chunks-cut, chunks-take}
 use Rattle.plan.proofs.Outputs.{parts-length}
 use Rattle.applying.specs.Buffers.{Same}
@@ -56,14 +56,6 @@ module _ (w : ℕ) (pos : 0 < w) where
 
 module _ {A : Type 0} (d : List ℕ → A) (f : A → List ℕ) (w : ℕ) (pos : 0 < w) (wide : (a : A) → length (f a) ≡ w)
     (P : List ℕ → Type 0) (later : (n : ℕ) (s : List ℕ) → P s → P (drop n s)) (again : (s : List ℕ) → P s → w ≤ length s → f (d s) ≡ take w s) where
-  flat-drop : (k : ℕ) (l : List A) (s : List ℕ) → k ≤ length l → drop (k * w) (flatMap f l ++ s) ≡ flatMap f (drop k l) ++ s
-  flat-drop zero l s h = rw zero-mul refl
-  flat-drop (suc k) [] s h = absurd (omega arith)
-  flat-drop (suc k) (a ∷ l) s h =
-      let m : suc k * w ≡ length (f a) + k * w = omega (arith, suc-mul k w, wide a) in
-      let e : flatMap f (a ∷ l) ++ s ≡ f a ++ (flatMap f l ++ s) = unfold flatMap in append-assoc (f a) (flatMap f l) s in
-      rw (m, e) (drop-append-add (f a) (flatMap f l ++ s) (k * w) ∙ flat-drop k l s (omega arith))
-
   chunks-back : (n : ℕ) (s : List ℕ) → P s → n * w ≤ length s → flatMap f (chunks d w n s) ≡ take (n * w) s
   unfolding chunks flatMap
   chunks-back zero s p h = rw zero-mul refl
@@ -87,7 +79,7 @@ module _ {A : Type 0} (d : List ℕ → A) (f : A → List ℕ) (w : ℕ) (pos :
       ∙ ap₂ (λ (a : List A) (b : List ℕ). flatMap f a ++ b) e (rw (s .long) (s .rest))
       ∙ ap (λ (a : List ℕ). a ++ t) (flat-append f xs r)
       ∙ append-assoc (flatMap f xs) (flatMap f r) t
-      ∙ ap (λ (a : List ℕ). flatMap f xs ++ a) (sym (rw (zero-add, l) (ap (drop (length xs * w)) (sym (records-back before p)) ∙ flat-drop (length xs) (records d w before) t (omega (arith, records-length d w before)))))
+      ∙ ap (λ (a : List ℕ). flatMap f xs ++ a) (sym (rw (zero-add, l) (ap (drop (length xs * w)) (sym (records-back before p)) ∙ flat-drop f w wide (length xs) (records d w before) t (omega (arith, records-length d w before)))))
 
 -- ---- elements moved to the front: those from n on are still as they were
 

@@ -19,7 +19,8 @@ use Rattle.cut.proofs.Kept.{clear-apart, kept-from, from-keeps, from-insertAll,
 use Rattle.segment.specs.declared.Segment.{Segment}
 use Rattle.records.proofs.Lists.{pairs-drop}
 use Rattle.cut.proofs.Inserts.{fresh, inserted-rises}
-use Rattle.merge.proofs.Replaced.{items-made, items-replaced}
+use Rattle.cut.proofs.Mappings.{items-made}
+use Rattle.merge.proofs.Replaced.{items-replaced}
 use Rattle.edits.proofs.Filled.{edits-filled}
 use Rattle.plan.specs.Plans.{Add}
 use Rattle.plan.specs.Places.{Wanted}

@@ -24,7 +24,7 @@ use Rattle.segment.specs.declared.Segment.{Segment}
 use Rattle.segment.specs.Segments.{segmentOf, startsBy, startsPast, Around, Cutting}
 use Rattle.segment.proofs.Inserting.{insertItems, insertAll-made, insertAll-replaced}
 use Rattle.merge.specs.Merge.{together}
-use Rattle.merge.proofs.Replaced.{items-made}
+use Rattle.cut.proofs.Mappings.{items-made}
 use Rattle.splits.specs.Splits.{elsewhere}
 use Rattle.splits.proofs.Shares.{two-extents}
 use Rattle.changing.specs.Sides.{middle, bytesOf}

@@ -62,7 +62,7 @@ left-cases lo hi f = go (touched lo hi f) refl (ltb (f .key) lo) refl (ltb hi (e
     go true e false p true q = backed (meets e .0) (ltb-false (f .key) lo p) (meets e .2) (ltb-true hi (end f) q)
     go true e false p false q = taken (meets e .0) (ltb-false (f .key) lo p) (ltb-false hi (end f) q)
 
-items-made : (fs : List Fields) → itemsOf (map made fs) ≡ fs
+pub items-made : (fs : List Fields) → itemsOf (map made fs) ≡ fs
 items-made [] = refl
 items-made (f ∷ fs) = ap (λ (l : List Fields). f ∷ l) (items-made fs)
 

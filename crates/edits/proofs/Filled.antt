@@ -13,7 +13,8 @@ use Rattle.lists.specs.Lists.{rises}
 use Rattle.cut.specs.Pieces.{made, itemsOf, insertAll, replaced}
 use Rattle.cut.specs.Edits.{edits}
 use Rattle.cut.proofs.Inserts.{placeEdits, fresh, edits-placed}
-use Rattle.merge.proofs.Replaced.{items-made, items-replaced, allRise, edits-replaced}
+use Rattle.cut.proofs.Mappings.{items-made}
+use Rattle.merge.proofs.Replaced.{items-replaced, allRise, edits-replaced}
 
 -- only the part that makes way and the new items need edits
 pub edits-filled :

@@ -1,16 +1,16 @@
 -- Lines read again from an output that they were laid over. Assumes nothing.
 use mathlib.Core.Path.{_≡_, refl, ap₂, _∙_, sym}
 use mathlib.Core.Bool.{Bool, true}
-use mathlib.Core.List.{List, [], _∷_, _++_, flatMap, append-assoc}
-use Prim.Native.Nat.{ℕ, zero, suc, _+_, _-_, _*_, _/_, _<_, _≤_}
+use mathlib.Core.List.{List, [], _∷_, _++_, flatMap}
+use Prim.Native.Nat.{ℕ, _-_, _*_, _/_, _<_, _≤_}
 use native.Mathlib.Omega.{arith}
-use native.Mathlib.Nat.{zero-mul, zero-add, suc-mul, mul-comm, mul-sub, mul-div-cancel}
+use native.Mathlib.Nat.{zero-mul, zero-add, mul-comm, mul-sub, mul-div-cancel}
 use lib.ListN.{length, take, drop, length-drop}
-use lib.Seq.{take-append-seam, drop-append-seam, drop-append-add}
+use lib.Seq.{take-append-seam, drop-append-seam}
 use Rattle.records.specs.Records.{chunks, records}
 use Rattle.records.specs.Stages.{every}
 use Rattle.records.proofs.Tests.{both-left, both-right}
-use Rattle.records.proofs.Lists.{every-drop}
+use Rattle.records.proofs.Lists.{every-drop, flat-drop}
 use Rattle.endian.specs.Le.{put}
 use Rattle.lines.specs.Lines.{lay}
 use Rattle.lines.proofs.Laws.{lay-put, length-flat}
@@ -32,15 +32,6 @@ module _ {A : Type 0} (f : A → List ℕ) (w : ℕ) (d : List ℕ → A) (pos :
       let z : length (flatMap f l) / w ≡ length l = rw (length-flat f w pos wide l) (mul-div-cancel (length l) pos) in
       rw z (chunks-read l e)
 
-  -- the lines from number k on
-  lines-drop : (k : ℕ) (l : List A) (s : List ℕ) → k ≤ length l → drop (k * w) (flatMap f l ++ s) ≡ flatMap f (drop k l) ++ s
-  lines-drop zero l s h = rw zero-mul refl
-  lines-drop (suc k) [] s h = absurd (omega arith)
-  lines-drop (suc k) (a ∷ l) s h =
-      let m : suc k * w ≡ length (f a) + k * w = omega (arith, suc-mul k w, wide a) in
-      let e : flatMap f (a ∷ l) ++ s ≡ f a ++ (flatMap f l ++ s) = unfold flatMap in append-assoc (f a) (flatMap f l) s in
-      rw (m, e) (drop-append-add (f a) (flatMap f l ++ s) (k * w) ∙ lines-drop k l s (omega arith))
-
   pub lay-read : (l : List A) (out : List ℕ) (k : ℕ) → every u l ≡ true → length l ≤ length out / w → k ≤ length l → records d w (take (length l * w - k * w) (drop (k * w) (lay f w 0 l out))) ≡ drop k l
   unfolding put
   lay-read l out k t h m =
@@ -48,7 +39,7 @@ module _ {A : Type 0} (f : A → List ℕ) (w : ℕ) (d : List ℕ → A) (pos :
       let e : lay f w 0 l out ≡ flatMap f l ++ r = lay-put f w pos wide 0 l out (omega (arith, h)) ∙ rw (zero-mul, zero-add) refl in
       let n : length (drop k l) ≡ length l - k = length-drop k l in
       let s : length l * w - k * w ≡ length (flatMap f (drop k l)) = sym (length-flat f w pos wide (drop k l) ∙ rw n (times (length l))) in
-      rw (e, lines-drop k l r m, s, take-append-seam (flatMap f (drop k l)) r) (lines-read (drop k l) (every-drop u k l t))
+      rw (e, flat-drop f w wide k l r m, s, take-append-seam (flatMap f (drop k l)) r) (lines-read (drop k l) (every-drop u k l t))
     where
       times : (n : ℕ) → (n - k) * w ≡ n * w - k * w
       times n = mul-comm (n - k) w ∙ mul-sub w n k ∙ ap₂ (λ (a b : ℕ). a - b) (mul-comm w n) (mul-comm w k)

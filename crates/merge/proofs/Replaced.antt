@@ -1,6 +1,6 @@
 -- The edits where a part of a list makes way for others. Assumes nothing.
 use mathlib.Core.Path.{_≡_, refl, ap, ap₂, _∙_, sym}
-use mathlib.Core.Bool.{Bool, true, false, not, or-false}
+use mathlib.Core.Bool.{Bool, true, not, or-false}
 use mathlib.Core.List.{List, [], _∷_, _++_, append-nil, map, flatMap, map-append, map-map, map-id}
 use Prim.Native.Nat.{ℕ, zero, suc, _-_, _≤_}
 use native.Mathlib.Omega.{arith}
@@ -17,22 +17,20 @@ use Rattle.item.specs.Items.{Fields}
 use Rattle.lists.specs.Lists.{rises}
 use Rattle.cut.specs.Pieces.{Piece, made, kept, itemsOf, replaced}
 use Rattle.cut.specs.Edits.{Edit, put, delete, puts, below, edits}
+use Rattle.cut.proofs.Mappings.{items-made}
 use Rattle.cut.proofs.Cases.{over, none-below, all-from, none-at, edits-first, edits-same}
 use Rattle.merge.proofs.Cases.{made-over}
 
 -- ---- the items
 
-marked : (b : Bool) (fs : List Fields) → itemsOf (map (λ (f : Fields). record { made = b; item = f }) fs) ≡ fs
-marked b fs = map-map (λ (p : Piece). p .item) (λ (f : Fields). record { made = b; item = f }) fs ∙ map-id fs
-
-pub items-made : (fs : List Fields) → itemsOf (map made fs) ≡ fs
-items-made = marked true
+items-kept : (fs : List Fields) → itemsOf (map kept fs) ≡ fs
+items-kept fs = map-map (λ (p : Piece). p .item) kept fs ∙ map-id fs
 
 pub items-replaced : (fs : List Fields) (from to : ℕ) (s : List Fields) → itemsOf (replaced fs from to s) ≡ take from fs ++ (s ++ drop to fs)
 items-replaced fs from to s =
     map-append (λ (p : Piece). p .item) (map kept (take from fs)) (map made s ++ map kept (drop to fs))
-    ∙ ap₂ (λ (l m : List Fields). l ++ m) (marked false (take from fs))
-    (map-append (λ (p : Piece). p .item) (map made s) (map kept (drop to fs)) ∙ ap₂ (λ (l m : List Fields). l ++ m) (items-made s) (marked false (drop to fs)))
+    ∙ ap₂ (λ (l m : List Fields). l ++ m) (items-kept (take from fs))
+    (map-append (λ (p : Piece). p .item) (map made s) (map kept (drop to fs)) ∙ ap₂ (λ (l m : List Fields). l ++ m) (items-made s) (items-kept (drop to fs)))
 
 -- ---- the edits
 

@@ -3,10 +3,12 @@ use mathlib.Core.Path.{_≡_, refl, ap, _∙_, sym}
 use mathlib.Core.Bool.{Bool, true, false, cond, _&&_, _||_, not, or-false, false≢true}
 use mathlib.Core.List.{List, [], _∷_, _++_, map, flatMap, List·Memᴰ, List·Memᴰ·head, List·Memᴰ·tail, append-assoc}
 use mathlib.Core.Logic.{_⊎_, inl, inr}
-use Prim.Native.Nat.{ℕ, zero, suc, _<_}
+use Prim.Native.Nat.{ℕ, zero, suc, _+_, _*_, _<_, _≤_}
 use native.Mathlib.Omega.{arith}
+use native.Mathlib.Nat.{zero-mul, suc-mul}
 use lib.Dec.{eqb}
 use lib.ListN.{length, getD, take, drop}
+use lib.Seq.{drop-append-add}
 use borrow.Author.Tests.{eq-eqb}
 use Rattle.records.specs.Stages.{first, stage, every, pairs}
 use Rattle.records.specs.Select.{keep, any}
@@ -255,3 +257,12 @@ pub flat-append : {A B : Type 0} (f : A → List B) (l m : List A) → flatMap f
 unfolding flatMap
 flat-append f [] m = refl
 flat-append {A} {B} f (a ∷ l) m = ap (λ (k : List B). f a ++ k) (flat-append f l m) ∙ sym (append-assoc (f a) (flatMap f l) (flatMap f m))
+
+-- of parts of one width, those from number k on
+pub flat-drop : {A B : Type 0} (f : A → List B) (w : ℕ) → ((a : A) → length (f a) ≡ w) → (k : ℕ) (l : List A) (s : List B) → k ≤ length l → drop (k * w) (flatMap f l ++ s) ≡ flatMap f (drop k l) ++ s
+flat-drop f w wide zero l s h = rw zero-mul refl
+flat-drop f w wide (suc k) [] s h = absurd (omega arith)
+flat-drop f w wide (suc k) (a ∷ l) s h =
+    let m : suc k * w ≡ length (f a) + k * w = omega (arith, suc-mul k w, wide a) in
+    let e : flatMap f (a ∷ l) ++ s ≡ f a ++ (flatMap f l ++ s) = unfold flatMap in append-assoc (f a) (flatMap f l) s in
+    rw (m, e) (drop-append-add (f a) (flatMap f l ++ s) (k * w) ∙ flat-drop f w wide k l s (omega arith))
