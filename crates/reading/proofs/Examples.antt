@@ -5,6 +5,7 @@ use mathlib.Core.List.{List, [], _∷_}
 use Prim.Native.Nat.{ℕ}
 use Prim.Native.String.{String}
 use lib.Dec.{eqb}
+use Rattle.table.specs.Rows.{rowOf}
 use Rattle.records.specs.Stages.{every}
 use Rattle.decimal.specs.Decimal.{digits, value, plain}
 use Rattle.words.specs.Words.{bytes, starts}
@@ -70,7 +71,7 @@ whole :
       rows = record { start = 1048576; length = 16384; references = 1; made = 5; keyed = 0 } ∷ [];
       places = [];
     }
-unfolding readInput lines onto readLine readBy fields numbers into more starts digits value plain readingOf after along begin taken takenTo next itemsIn sharedIn rowsIn placesIn
+unfolding readInput lines onto readLine readBy fields numbers into more starts digits value plain readingOf after along begin taken takenTo next itemsIn sharedIn rowsIn placesIn rowOf
 whole = refl
 
 -- the line at fault

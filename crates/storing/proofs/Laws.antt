@@ -5,7 +5,7 @@ use mathlib.Core.List.{List}
 use Prim.Native.Nat.{ℕ}
 use native.Mathlib.Omega.{arith}
 use lib.ListN.{length}
-use Rattle.table.specs.Rows.{rowNumbers}
+use Rattle.table.specs.Rows.{rowOf, rowNumbers}
 use Rattle.records.specs.Select.{only}
 use Rattle.item.specs.Items.{Fields, encode}
 use Rattle.segment.proofs.Buffer.{length-encode}
@@ -14,7 +14,7 @@ use Rattle.lines.proofs.Laws.{length-lay}
 use Rattle.item_lines.specs.Raw.{byte}
 use Rattle.taking.specs.declared.Read.{Read}
 use Rattle.taking.specs.Order.{next}
-use Rattle.taking.specs.Taking.{itemOf, sharedOf, rowOf, placeOf, comes, holder, takenTo, taken, itemsIn, sharedIn, rowsIn, placesIn}
+use Rattle.taking.specs.Taking.{itemOf, sharedOf, placeOf, comes, holder, takenTo, taken, itemsIn, sharedIn, rowsIn, placesIn}
 use Rattle.storing.specs.Storing.{alone, Buffers, Took}
 
 -- a buffer of records keeps its length

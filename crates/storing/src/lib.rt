@@ -8,12 +8,12 @@ ghost use mathlib.Core.Path.{_≡_};
 ghost use mathlib.Core.List.{[], _∷_};
 ghost use Prim.Native.Nat.{_+_, _≤_};
 ghost use lib.ListN.{length};
-ghost use Rattle.table.specs.Rows.{rowNumbers};
+ghost use Rattle.table.specs.Rows.{rowOf, rowNumbers};
 ghost use Rattle.endian.specs.Le.{put};
 ghost use Rattle.records.specs.Select.{only};
 ghost use Rattle.lines.specs.Lines.{lay};
 ghost use Rattle.taking.specs.Few.{Few};
-ghost use Rattle.taking.specs.Taking.{rowOf, holder};
+ghost use Rattle.taking.specs.Taking.{holder};
 ghost use Rattle.storing.specs.Storing.{alone, buffers, Took};
 
 // Five numbers over out, from `at`.

@@ -5,6 +5,7 @@ use mathlib.Core.List.{List, [], _∷_}
 use Prim.Native.Nat.{ℕ}
 use lib.Dec.{eqb}
 use lib.ListN.{getD, drop}
+use Rattle.table.specs.Rows.{rowOf}
 use Rattle.records.specs.Stages.{every}
 use Rattle.taking.specs.Order.{next}
 use Rattle.taking.specs.Taking.{begin, takenTo, taken, fault, itemOf, itemsIn, sharedIn, rowsIn, placesIn}
@@ -97,7 +98,7 @@ clone :
       rows = record { start = 11; length = 12; references = 13; made = 14; keyed = 15 } ∷ [];
       places = [];
     }
-unfolding readingOf after along begin taken takenTo next itemsIn sharedIn rowsIn placesIn
+unfolding readingOf after along begin taken takenTo next itemsIn sharedIn rowsIn placesIn rowOf
 clone = refl
 
 -- a fallocate with two places, which keeps the size

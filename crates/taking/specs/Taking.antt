@@ -7,6 +7,7 @@ use lib.ListN.{getD}
 use Rattle.records.specs.Select.{only}
 use Rattle.item.specs.Items.{Fields}
 use Rattle.table.specs.declared.Row.{Row}
+use Rattle.table.specs.Rows.{rowOf}
 use Rattle.request.specs.declared.Volume.{Volume}
 use Rattle.request.specs.declared.File.{File}
 use Rattle.taking.specs.declared.Asked.{Asked}
@@ -46,10 +47,6 @@ itemOf number v =
 -- an item's last number: "An item may add .. `shared`"
 abbrev pub sharedOf : List ℕ → ℕ
 sharedOf v = getD v 11 0
-
--- "(extent (at 1048576) (len 16384) (refs 1) (made 5) (keyed 0))"
-abbrev pub rowOf : List ℕ → Row
-rowOf v = record { start = getD v 0 0; length = getD v 1 0; references = getD v 2 0; made = getD v 3 0; keyed = getD v 4 0 }
 
 -- "(place N)"
 abbrev pub placeOf : List ℕ → ℕ
@@ -130,6 +127,7 @@ itemsIn r kind v = only (comes 3 (next (r .phase) kind) kind) (itemOf (holder r 
 unfoldable pub sharedIn : Read → (kind : ℕ) → List ℕ → List ℕ
 sharedIn r kind v = only (comes 3 (next (r .phase) kind) kind) (sharedOf v)
 
+-- "(extent (at 1048576) (len 16384) (refs 1) (made 5) (keyed 0))": a row's five numbers, in its order
 unfoldable pub rowsIn : Read → (kind : ℕ) → List ℕ → List Row
 rowsIn r kind v = only (comes 4 (next (r .phase) kind) kind) (rowOf v)
 

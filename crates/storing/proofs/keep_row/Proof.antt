@@ -1,5 +1,4 @@
-use Rattle.table.specs.Rows.{rowNumbers}
-use Rattle.taking.specs.Taking.{rowOf}
+use Rattle.table.specs.Rows.{rowOf, rowNumbers}
 use Rattle.item_lines.proofs.Laws.{kept-none, kept-full, kept-one}
 use borrow.Author.Tests.{not-true, not-false}
 use native.Mathlib.Omega.{arith}
@@ -38,6 +37,7 @@ same-length : tie.Need-same-length
 same-length c = search needs
 
 returns-3 : tie.Need-returns-3
+unfolding rowOf
 returns-3 c = let a = c .before .before .before .before .before .before .before .args in kept-one rowNumbers 5 _ (a .is) (rowOf (a .t4)) _ _ (not-false _ (c .before .before .before .before .before .if1 .left)) (omega arith) (c .before .before .put-five .ensures)
 
 pub keep-row-spec : {M : Type 1} → statement M
