@@ -2,3 +2,5 @@ pub mod Refusals
 pub mod Tallies
 pub mod Rows
 pub mod Cuts
+pub mod Chains
+pub mod Links

@@ -75,6 +75,9 @@ module _ (c : Cut) (release : Bool) (fs : List Fields) (bs : List ℕ) (row : Ro
   pub row-some : length bs ≡ length fs → t ≡ true → rowLines release (dropsIn c fs bs) row ≡ flatMap (lineOf c (row .start)) fs
   row-some l z = row-lines release (dropsIn c fs bs) row u t e h ∙ rw z (lines-items c (row .start) fs bs l)
 
+  pub row-all : t ≡ true → rowLines release (dropsIn c fs bs) row ≡ lines (row .start) (dropsIn c fs bs)
+  row-all z = row-lines release (dropsIn c fs bs) row u t e h ∙ rw z refl
+
   pub row-none : t ≡ false → rowLines release (dropsIn c fs bs) row ≡ []
   row-none z = row-lines release (dropsIn c fs bs) row u t e h ∙ rw z refl
 

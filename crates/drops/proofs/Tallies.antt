@@ -20,7 +20,7 @@ use Rattle.drops.specs.Raw.{dropOf}
 
 -- ---- how many pass, and whether their leaves are not shared
 
-abbrev unshared : Held → Bool
+abbrev pub unshared : Held → Bool
 unshared d = eqb (d .shared) 0
 
 -- what was counted and tested so far, with what is left, is the whole

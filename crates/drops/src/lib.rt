@@ -8,16 +8,18 @@ use table::Found;
 use table::Row;
 ghost use mathlib.Core.Path.{_≡_};
 ghost use mathlib.Core.Bool.{true, cond, not};
-ghost use mathlib.Core.List.{List, flatMap};
-ghost use Prim.Native.Nat.{ℕ, _+_, _<_, _^_};
+ghost use mathlib.Core.List.{List, [], _∷_, flatMap};
+ghost use Prim.Native.Nat.{ℕ, _+_, _/_, _≤_, _<_, _^_, min, max};
 ghost use lib.ListN.{length};
 ghost use Rattle.item.specs.Items.{fields, items};
 ghost use Rattle.table.specs.Rows.{rows, tableKept};
 ghost use Rattle.plan.specs.Outputs.{refNumbers};
 ghost use Rattle.lines.specs.Lines.{Laid};
-ghost use Rattle.refs.specs.Drops.{windowSound, dropRefusal, earlier, dropsRefusal, released, releases, unrefs};
+ghost use Rattle.refs.specs.Drops.{held, windowSound, dropRefusal, earlier, dropsRefusal, lines, released, releases, unrefs};
+ghost use Rattle.cut.specs.Refs.{refOf};
 ghost use Rattle.drops.specs.Dropped.{taken, dropsIn};
 ghost use Rattle.drops.specs.Raw.{due, itemDue, dropOf, lineOf, rowLines};
+ghost use Rattle.drops.specs.Chains.{wider, dropAt, Chain, Blank, Linked};
 
 // The range that is cut, and the starts of two extents that are written in place (0: none), whose items are compared
 // instead of dropped.
@@ -201,8 +203,8 @@ fn put_row(
     n
 }
 
-// A line for each drop that is a release, or for each that is an unref: by extent start, then in list order.
-pub fn put_drops(
+// The lines of all rows, each by passes over the list: for lists and tables that are longer than any that is accepted.
+fn put_plain(
     c: Cut,
     release: bool,
     list: &[u8],
@@ -222,4 +224,369 @@ pub fn put_drops(
         at = put_row(c, release, list, shared, row, out, at);
     }
     at
+}
+
+// ---- drops chained by row
+
+// Rows from one number up to another; none where `to` is not past `from`.
+struct Span {
+    from: usize,
+    to: usize,
+}
+
+fn lower(a: usize, b: usize) -> usize
+    ensures { λ r. ⌜ r ≡ min a b ⌝ }
+{
+    if a < b { a } else { b }
+}
+
+fn upper(a: usize, b: usize) -> usize
+    ensures { λ r. ⌜ r ≡ max a b ⌝ }
+{
+    if a < b { b } else { a }
+}
+
+// A span with row k in it.
+fn widened(s: Span, k: usize) -> Span
+    requires { ⌜ k + 1 < 2 ^ 64 ⌝ }
+    ensures { λ r. ⌜ r ≡ wider s k ⌝ }
+{
+    Span {
+        from: lower(s.from, k),
+        to: upper(s.to, k + 1),
+    }
+}
+
+fn wide(x: u32) -> usize
+    ensures { λ r. ⌜ r ≡ x ⌝ }
+{
+    x as usize
+}
+
+// Item i put before the chain of its row, if it is a drop and has one.
+fn link_item(
+    c: Cut,
+    list: &[u8],
+    shared: &[u8],
+    table: &[u64],
+    i: usize,
+    heads: &mut [u32],
+    nexts: &mut [u32],
+    span: Span,
+) -> Span
+    requires { ⌜ tableKept (rows (now table)) ≡ true ⌝ }
+    requires { ⌜ (length (now shared) ≡ length (items (now list))) × (i < length (now list) / 70) ⌝ }
+    requires { ⌜ Linked c (rows (now table)) (held (items (now list)) (now shared)) (i + 1) (now heads) (now nexts) span ⌝ }
+    ensures { λ r. ⌜ Linked c (rows (now (table .entry))) (held (items (now (list .entry))) (now (shared .entry))) i (now (heads .exit)) (now (nexts .exit)) r ⌝ }
+{
+    let item = item::item_at(list, i);
+    if !is_dropped(c, item) {
+        return span;
+    }
+    let Found::At(k, _) = table::find_row(table, item.extent_start()) else {
+        return span;
+    };
+    nexts[i] = heads[k];
+    heads[k] = (i + 1) as u32;
+    widened(span, k)
+}
+
+// The drops chained by row, in list order, as they are put in from the last to the first; the rows that have one.
+fn link(
+    c: Cut,
+    list: &[u8],
+    shared: &[u8],
+    table: &[u64],
+    heads: &mut [u32],
+    nexts: &mut [u32],
+) -> Span
+    requires { ⌜ tableKept (rows (now table)) ≡ true ⌝ }
+    requires { ⌜ length (now shared) ≡ length (items (now list)) ⌝ }
+    requires { ⌜ Blank (rows (now table)) (held (items (now list)) (now shared)) (now heads) (now nexts) ⌝ }
+    ensures { λ r. ⌜ Linked c (rows (now (table .entry))) (held (items (now (list .entry))) (now (shared .entry))) 0 (now (heads .exit)) (now (nexts .exit)) r ⌝ }
+{
+    let mut i = list.len() / 70;
+    let mut span = Span {
+        from: table.len() / 5,
+        to: 0,
+    };
+    while i > 0 {
+        i -= 1;
+        span = link_item(c, list, shared, table, i, heads, nexts, span);
+    }
+    span
+}
+
+// Whether an extent is released, by the chain of its drops. `at` is behind the last that was seen.
+fn is_chain_released(
+    c: Cut,
+    list: &[u8],
+    shared: &[u8],
+    nexts: &[u32],
+    head: usize,
+    row: Row,
+) -> bool
+    requires { ⌜ length (now shared) ≡ length (items (now list)) ⌝ }
+    requires { ⌜ Chain (dropAt c (row .start)) (held (items (now list)) (now shared)) (now nexts) head ⌝ }
+    ensures { λ r. ⌜ r ≡ released (dropsIn c (items (now (list .entry))) (now (shared .entry))) row ⌝ }
+{
+    let mut at = 0;
+    let mut h = head;
+    let mut many: u64 = 0;
+    let mut free = true;
+    while h != 0 {
+        many += 1;
+        free = both(free, shared[h - 1] == 0);
+        at = h;
+        h = wide(nexts[h - 1]);
+    }
+    both(row.references == many, free)
+}
+
+// The line of a drop.
+fn put_drop(item: Item, out: &mut [u64], n: usize) -> usize
+    requires { ⌜ n + 1 < 2 ^ 64 ⌝ }
+    ensures { λ r. ⌜ Laid refNumbers 2 n (refOf (fields item) ∷ []) (now (out .entry)) r (now (out .exit)) ⌝ }
+{
+    let start = item.extent_start();
+    let reference = item.reference();
+    lines::put_ref(out, n, start, reference)
+}
+
+// A line for each drop of a chain.
+fn put_chain(
+    c: Cut,
+    start: u64,
+    list: &[u8],
+    shared: &[u8],
+    nexts: &[u32],
+    head: usize,
+    out: &mut [u64],
+    n: usize,
+) -> usize
+    requires { ⌜ length (now shared) ≡ length (items (now list)) ⌝ }
+    requires { ⌜ Chain (dropAt c start) (held (items (now list)) (now shared)) (now nexts) head ⌝ }
+    requires { ⌜ n + length (lines start (dropsIn c (items (now list)) (now shared))) < 2 ^ 64 ⌝ }
+    ensures { λ r. ⌜ Laid refNumbers 2 n (lines start (dropsIn c (items (now (list .entry))) (now (shared .entry)))) (now (out .entry)) r (now (out .exit)) ⌝ }
+{
+    let mut at = 0;
+    let mut h = head;
+    let mut m = n;
+    while h != 0 {
+        m = put_drop(item::item_at(list, h - 1), out, m);
+        at = h;
+        h = wide(nexts[h - 1]);
+    }
+    m
+}
+
+// The lines of one row, by the chain of its drops.
+fn put_chained(
+    c: Cut,
+    release: bool,
+    list: &[u8],
+    shared: &[u8],
+    nexts: &[u32],
+    head: usize,
+    row: Row,
+    out: &mut [u64],
+    n: usize,
+) -> usize
+    requires { ⌜ length (now shared) ≡ length (items (now list)) ⌝ }
+    requires { ⌜ Chain (dropAt c (row .start)) (held (items (now list)) (now shared)) (now nexts) head ⌝ }
+    requires { ⌜ n + length (rowLines release (dropsIn c (items (now list)) (now shared)) row) < 2 ^ 64 ⌝ }
+    ensures { λ r. ⌜ Laid refNumbers 2 n (rowLines release (dropsIn c (items (now (list .entry))) (now (shared .entry))) row) (now (out .entry)) r (now (out .exit)) ⌝ }
+{
+    if head == 0 {
+        return n;
+    }
+    if is_asked(
+        release,
+        is_chain_released(c, list, shared, nexts, head, row),
+    ) {
+        return put_chain(c, row.start, list, shared, nexts, head, out, n);
+    }
+    n
+}
+
+// The lines of all rows of a span, outside of which no row has a drop.
+fn put_span(
+    c: Cut,
+    release: bool,
+    list: &[u8],
+    shared: &[u8],
+    table: &[u64],
+    heads: &[u32],
+    nexts: &[u32],
+    span: Span,
+    out: &mut [u64],
+    n: usize,
+) -> usize
+    requires { ⌜ tableKept (rows (now table)) ≡ true ⌝ }
+    requires { ⌜ length (now shared) ≡ length (items (now list)) ⌝ }
+    requires { ⌜ n + length (items (now list)) < 2 ^ 64 ⌝ }
+    requires { ⌜ Linked c (rows (now table)) (held (items (now list)) (now shared)) 0 (now heads) (now nexts) span ⌝ }
+    ensures { λ r. ⌜ Laid refNumbers 2 n (cond release (releases (rows (now (table .entry))) (dropsIn c (items (now (list .entry))) (now (shared .entry)))) (unrefs (rows (now (table .entry))) (dropsIn c (items (now (list .entry))) (now (shared .entry))))) (now (out .entry)) r (now (out .exit)) ⌝ }
+{
+    let mut at = n;
+    let from = span.from;
+    let to = span.to;
+    for k in from..to {
+        let row = table::row_at(table, k);
+        at = put_chained(
+            c,
+            release,
+            list,
+            shared,
+            nexts,
+            wide(heads[k]),
+            row,
+            out,
+            at,
+        );
+    }
+    at
+}
+
+// The lines of all rows: the drops are chained by row first, through arrays that are lent.
+fn put_linked(
+    c: Cut,
+    release: bool,
+    list: &[u8],
+    shared: &[u8],
+    table: &[u64],
+    heads: &mut [u32],
+    nexts: &mut [u32],
+    out: &mut [u64],
+    n: usize,
+) -> usize
+    requires { ⌜ tableKept (rows (now table)) ≡ true ⌝ }
+    requires { ⌜ length (now shared) ≡ length (items (now list)) ⌝ }
+    requires { ⌜ n + length (items (now list)) < 2 ^ 64 ⌝ }
+    requires { ⌜ Blank (rows (now table)) (held (items (now list)) (now shared)) (now heads) (now nexts) ⌝ }
+    ensures { λ r. ⌜ Laid refNumbers 2 n (cond release (releases (rows (now (table .entry))) (dropsIn c (items (now (list .entry))) (now (shared .entry)))) (unrefs (rows (now (table .entry))) (dropsIn c (items (now (list .entry))) (now (shared .entry))))) (now (out .entry)) r (now (out .exit)) ⌝ }
+{
+    let span = link(c, list, shared, table, heads, nexts);
+    put_span(c, release, list, shared, table, heads, nexts, span, out, n)
+}
+
+// The lines of all rows, with arrays of a size that suffices: for short lists and tables,
+fn put_few(
+    c: Cut,
+    release: bool,
+    list: &[u8],
+    shared: &[u8],
+    table: &[u64],
+    out: &mut [u64],
+    n: usize,
+) -> usize
+    requires { ⌜ tableKept (rows (now table)) ≡ true ⌝ }
+    requires { ⌜ length (now shared) ≡ length (items (now list)) ⌝ }
+    requires { ⌜ n + length (items (now list)) < 2 ^ 64 ⌝ }
+    requires { ⌜ (length (now table) / 5 ≤ 64) × (length (now list) / 70 ≤ 64) ⌝ }
+    ensures { λ r. ⌜ Laid refNumbers 2 n (cond release (releases (rows (now (table .entry))) (dropsIn c (items (now (list .entry))) (now (shared .entry)))) (unrefs (rows (now (table .entry))) (dropsIn c (items (now (list .entry))) (now (shared .entry))))) (now (out .entry)) r (now (out .exit)) ⌝ }
+{
+    let mut heads = [0u32; 64];
+    let mut nexts = [0u32; 64];
+    put_linked(
+        c,
+        release,
+        list,
+        shared,
+        table,
+        &mut heads,
+        &mut nexts,
+        out,
+        n,
+    )
+}
+
+// for longer ones,
+fn put_some(
+    c: Cut,
+    release: bool,
+    list: &[u8],
+    shared: &[u8],
+    table: &[u64],
+    out: &mut [u64],
+    n: usize,
+) -> usize
+    requires { ⌜ tableKept (rows (now table)) ≡ true ⌝ }
+    requires { ⌜ length (now shared) ≡ length (items (now list)) ⌝ }
+    requires { ⌜ n + length (items (now list)) < 2 ^ 64 ⌝ }
+    requires { ⌜ (length (now table) / 5 ≤ 1024) × (length (now list) / 70 ≤ 1024) ⌝ }
+    ensures { λ r. ⌜ Laid refNumbers 2 n (cond release (releases (rows (now (table .entry))) (dropsIn c (items (now (list .entry))) (now (shared .entry)))) (unrefs (rows (now (table .entry))) (dropsIn c (items (now (list .entry))) (now (shared .entry))))) (now (out .entry)) r (now (out .exit)) ⌝ }
+{
+    let mut heads = [0u32; 1024];
+    let mut nexts = [0u32; 1024];
+    put_linked(
+        c,
+        release,
+        list,
+        shared,
+        table,
+        &mut heads,
+        &mut nexts,
+        out,
+        n,
+    )
+}
+
+// and for all that are accepted.
+fn put_many(
+    c: Cut,
+    release: bool,
+    list: &[u8],
+    shared: &[u8],
+    table: &[u64],
+    out: &mut [u64],
+    n: usize,
+) -> usize
+    requires { ⌜ tableKept (rows (now table)) ≡ true ⌝ }
+    requires { ⌜ length (now shared) ≡ length (items (now list)) ⌝ }
+    requires { ⌜ n + length (items (now list)) < 2 ^ 64 ⌝ }
+    requires { ⌜ (length (now table) / 5 ≤ 65536) × (length (now list) / 70 ≤ 65536) ⌝ }
+    ensures { λ r. ⌜ Laid refNumbers 2 n (cond release (releases (rows (now (table .entry))) (dropsIn c (items (now (list .entry))) (now (shared .entry)))) (unrefs (rows (now (table .entry))) (dropsIn c (items (now (list .entry))) (now (shared .entry))))) (now (out .entry)) r (now (out .exit)) ⌝ }
+{
+    let mut heads = [0u32; 65536];
+    let mut nexts = [0u32; 65536];
+    put_linked(
+        c,
+        release,
+        list,
+        shared,
+        table,
+        &mut heads,
+        &mut nexts,
+        out,
+        n,
+    )
+}
+
+// A line for each drop that is a release, or for each that is an unref: by extent start, then in list order.
+pub fn put_drops(
+    c: Cut,
+    release: bool,
+    list: &[u8],
+    shared: &[u8],
+    table: &[u64],
+    out: &mut [u64],
+    n: usize,
+) -> usize
+    requires { ⌜ tableKept (rows (now table)) ≡ true ⌝ }
+    requires { ⌜ length (now shared) ≡ length (items (now list)) ⌝ }
+    requires { ⌜ n + length (items (now list)) < 2 ^ 64 ⌝ }
+    ensures { λ r. ⌜ Laid refNumbers 2 n (cond release (releases (rows (now (table .entry))) (dropsIn c (items (now (list .entry))) (now (shared .entry)))) (unrefs (rows (now (table .entry))) (dropsIn c (items (now (list .entry))) (now (shared .entry))))) (now (out .entry)) r (now (out .exit)) ⌝ }
+{
+    let most = upper(table.len() / 5, list.len() / 70);
+    if most <= 64 {
+        return put_few(c, release, list, shared, table, out, n);
+    }
+    if most <= 1024 {
+        return put_some(c, release, list, shared, table, out, n);
+    }
+    if most <= 65536 {
+        return put_many(c, release, list, shared, table, out, n);
+    }
+    put_plain(c, release, list, shared, table, out, n)
 }

@@ -1,76 +1,67 @@
-use Rattle.drops.proofs.Rows.{lines-rows, kind-most}
-use Rattle.lines.proofs.Loops.{laid-same, flat-first, flat-room, flat-turn, flat-done, going-length}
-use Rattle.drops.specs.Raw.{rowLines}
-use Rattle.drops.specs.Dropped.{dropsIn}
-use Rattle.lines.proofs.Laws.{Going}
-use Rattle.plan.specs.Outputs.{refNumbers}
-use Rattle.table.proofs.Laws.{rows-rest}
-use Rattle.table.specs.Rows.{rowOf, rows}
-use Rattle.item.specs.Items.{items}
-use Rattle.records.proofs.Loops.{rest}
-use denote.Ref.{now}
-use Prim.Native.Nat.{_-_, _≤_}
-use mathlib.Core.List.{flatMap}
-use mathlib.Core.Path.{refl}
 use native.Mathlib.Omega.{arith}
+use borrow.Author.Needs.{needs}
 use Rattle.drops.proofs.put_drops.Statement.{statement}
 use Rattle.drops.proofs.put_drops.Tie as tie
 
-abbrev Inv-loop : tie.InvT-loop
-Inv-loop c release list shared table out₀ n at₀ i₀ i-end out at i =
-    (i ≤ i-end)
-    × Going refNumbers 2 n (flatMap (rowLines release (dropsIn c (items list) shared)) (rows table)) out₀ at (flatMap (rowLines release (dropsIn c (items list) shared)) (rest rowOf 5 table i-end i)) out
+upper-requires : tie.Need-upper-requires
+upper-requires c κs = search needs
 
-abbrev μ-loop : tie.MeasureT-loop
-μ-loop c release list shared table out₀ n at₀ i₀ i-end out at i = i-end - i
+put-few-requires : tie.Need-put-few-requires
+put-few-requires c κs =
+    let a = c .before .before .before .before .before .before .before in
+    (a .pre .0, (a .pre .1 .0, (a .pre .1 .1, (omega (arith, c .before .before .upper .ensures, c .before .if1 .taken), omega (arith, c .before .before .upper .ensures, c .before .if1 .taken)))))
 
-loop-holds : tie.Need-loop-holds Inv-loop μ-loop
-loop-holds c =
-    let a = c .before .before .before .before .args in
-    (omega arith, flat-first refNumbers 2 (rowLines (a .release) (dropsIn (a .c) (items (now (a .list))) (now (a .shared)))) rowOf 5 _ _ _ _ _ (rows-rest _))
+same-length : tie.Need-same-length
+same-length c = search needs
 
-row-at-requires : tie.Need-row-at-requires Inv-loop μ-loop
-row-at-requires c κs = omega arith
+returns : tie.Need-returns
+returns c = search needs
 
-put-row-requires : tie.Need-put-row-requires Inv-loop μ-loop
-put-row-requires c κs =
-    let a = c .before .before .before .before .before .before .before .before .args in
-    let g = rowLines (a .release) (dropsIn (a .c) (items (now (a .list))) (now (a .shared))) in
-    let most = kind-most (a .c) (a .release) (rows (now (a .table))) (items (now (a .list))) (now (a .shared)) (c .before .before .before .before .before .before .before .before .pre .0) (c .before .before .before .before .before .before .before .before .pre .1 .0) in
-    (c .before .before .before .before .before .before .before .before .pre .1 .0, omega (arith, c .before .before .before .before .before .before .before .before .pre .1 .1, most, flat-room refNumbers 2 g rowOf 5 _ _ _ _ _ _ _ _ _ (c .before .before .loop-test .taken) (c .before .row-at .ensures) (c .before .before .before .loop .inv .1)))
+put-some-requires : tie.Need-put-some-requires
+put-some-requires c κs =
+    let a = c .before .before .before .before .before .before .before .before in
+    (a .pre .0, (a .pre .1 .0, (a .pre .1 .1, (omega (arith, c .before .before .before .upper .ensures, c .before .if2 .taken), omega (arith, c .before .before .before .upper .ensures, c .before .if2 .taken)))))
 
-add-i : tie.Need-add-i Inv-loop μ-loop
-add-i c = omega arith
+same-length-2 : tie.Need-same-length-2
+same-length-2 c = search needs
 
-loop-less : tie.Need-loop-less Inv-loop μ-loop
-loop-less c = omega arith
+returns-2 : tie.Need-returns-2
+returns-2 c = search needs
 
-loop-again : tie.Need-loop-again Inv-loop μ-loop
-loop-again c =
-    let a = c .before .before .before .before .before .before .before .before .before .before .before .args in
-    let g = rowLines (a .release) (dropsIn (a .c) (items (now (a .list))) (now (a .shared))) in
-    (omega arith, flat-turn refNumbers 2 g rowOf 5 _ _ _ _ _ _ _ _ _ (c .before .before .before .before .before .loop-test .taken) (c .before .before .before .before .row-at .ensures) (c .before .before .before .before .before .before .loop .inv .1) _ _ (c .before .before .put-row .ensures))
+put-many-requires : tie.Need-put-many-requires
+put-many-requires c κs =
+    let a = c .before .before .before .before .before .before .before .before .before in
+    (a .pre .0, (a .pre .1 .0, (a .pre .1 .1, (omega (arith, c .before .before .before .before .upper .ensures, c .before .if3 .taken), omega (arith, c .before .before .before .before .upper .ensures, c .before .if3 .taken)))))
 
-same-length : tie.Need-same-length Inv-loop μ-loop
-same-length c = going-length refNumbers 2 (omega arith) (λ b. refl) _ _ _ _ _ _ (c .before .loop .inv .1)
+same-length-3 : tie.Need-same-length-3
+same-length-3 c = search needs
 
-returns : tie.Need-returns Inv-loop μ-loop
-returns c =
-    let a = c .before .before .before .before .before .before .args in
-    let ds = dropsIn (a .c) (items (now (a .list))) (now (a .shared)) in
-    laid-same refNumbers 2 _ _ _ _ _ _ (lines-rows (a .release) (rows (now (a .table))) ds) (flat-done refNumbers 2 (rowLines (a .release) ds) rowOf 5 _ _ _ _ _ _ _ _ (c .loop-test .left) (c .before .loop .inv .1))
+returns-3 : tie.Need-returns-3
+returns-3 c = search needs
+
+put-plain-requires : tie.Need-put-plain-requires
+put-plain-requires c κs = search needs
+
+same-length-4 : tie.Need-same-length-4
+same-length-4 c = search needs
+
+returns-4 : tie.Need-returns-4
+returns-4 c = search needs
 
 pub put-drops-spec : {M : Type 1} → statement M
 put-drops-spec =
     tie.close
     (tie.spec
-    Inv-loop
-    μ-loop
-    loop-holds
-    row-at-requires
-    put-row-requires
-    add-i
-    loop-less
-    loop-again
+    upper-requires
+    put-few-requires
     same-length
-    returns)
+    returns
+    put-some-requires
+    same-length-2
+    returns-2
+    put-many-requires
+    same-length-3
+    returns-3
+    put-plain-requires
+    same-length-4
+    returns-4)

@@ -1,0 +1,55 @@
+use Rattle.drops.proofs.Links.{linked-first, linked-same}
+use Rattle.drops.specs.Chains.{Linked}
+use Rattle.refs.specs.Drops.{held}
+use Rattle.refs.proofs.Drops.{held-length}
+use Rattle.item.specs.Items.{items}
+use Rattle.item.proofs.Laws.{items-length}
+use Rattle.table.specs.Rows.{rows}
+use denote.Ref.{now}
+use lib.ListN.{length}
+use Prim.Native.Nat.{_+_, _-_, _/_, _≤_}
+use mathlib.Core.Path.{_≡_, refl}
+use native.Mathlib.Omega.{arith}
+use borrow.Author.Needs.{needs}
+use Rattle.drops.proofs.link.Statement.{statement}
+use Rattle.drops.proofs.link.Tie as tie
+
+abbrev Inv-loop : tie.InvT-loop
+Inv-loop c list shared table heads₀ nexts₀ i₀ span₀ heads nexts i span =
+    (i ≤ length list / 70) × (length heads ≡ length heads₀) × (length nexts ≡ length nexts₀) × Linked c (rows table) (held (items list) shared) i heads nexts span
+
+abbrev μ-loop : tie.MeasureT-loop
+μ-loop c list shared table heads₀ nexts₀ i₀ span₀ heads nexts i span = i
+
+loop-holds : tie.Need-loop-holds Inv-loop μ-loop
+loop-holds c =
+    let a = c .before .before .before .before .before in
+    (omega arith, refl, refl, linked-first (a .args .c) (now (a .args .table)) _ _ _ _ (a .pre .1 .1) (omega (arith, a .pre .1 .0, held-length (items (now (a .args .list))) (now (a .args .shared)) (a .pre .1 .0), items-length (now (a .args .list)))))
+
+sub-i : tie.Need-sub-i Inv-loop μ-loop
+sub-i c = omega arith
+
+link-item-requires : tie.Need-link-item-requires Inv-loop μ-loop
+link-item-requires c κs =
+    let a = c .before .before .before .before .before .before .before .before .before in
+    (a .pre .0, ((a .pre .1 .0, omega arith), linked-same _ _ _ _ _ _ _ _ (omega arith) (c .before .before .before .loop .inv .3)))
+
+loop-less : tie.Need-loop-less Inv-loop μ-loop
+loop-less c = omega arith
+
+loop-again : tie.Need-loop-again Inv-loop μ-loop
+loop-again c = (omega arith, search needs, search needs, c .before .before .before .before .link-item .ensures)
+
+same-length : tie.Need-same-length Inv-loop μ-loop
+same-length c = c .before .loop .inv .1
+
+same-length-2 : tie.Need-same-length-2 Inv-loop μ-loop
+same-length-2 c = c .before .loop .inv .2
+
+returns : tie.Need-returns Inv-loop μ-loop
+returns c = linked-same _ _ _ _ _ _ _ _ (omega arith) (c .before .loop .inv .3)
+
+pub link-spec : {M : Type 1} → statement M
+link-spec =
+    tie.close
+    (tie.spec Inv-loop μ-loop loop-holds sub-i link-item-requires loop-less loop-again same-length same-length-2 returns)

@@ -1,0 +1,52 @@
+-- Drops chained by row, through arrays of numbers: a number is an index and one more, and 0 is none.
+use mathlib.Core.Bool.{Bool, true, cond}
+use mathlib.Core.List.{List, [], _∷_}
+use mathlib.Core.Path.{_≡_}
+use Prim.Native.Nat.{ℕ, _+_, _≤_, _<_, min, max}
+use lib.ListN.{length, getD, drop}
+use Rattle.table.specs.declared.Row.{Row}
+use Rattle.refs.specs.Drops.{Held}
+use Rattle.drops.specs.declared.Cut.{Cut}
+use Rattle.drops.specs.declared.Span.{Span}
+use Rattle.drops.specs.Raw.{dropOf}
+
+module _ {A : Type 0} (p : A → Bool) where
+  -- of those from index i on, the number of the first that passes
+  unfoldable pub leader : ℕ → List A → ℕ
+  leader i [] = 0
+  leader i (x ∷ xs) = cond (p x) (i + 1) (leader (i + 1) xs)
+
+  -- the chain of those that pass: its head, and at each of them the number of the next
+  pub record Chain (xs : List A) (nexts : List ℕ) (head : ℕ) : Type 0 where
+    pub room : length xs ≤ length nexts
+    pub starts : head ≡ leader 0 xs
+    pub goes : (j : ℕ) (e : A) → j < length xs → p (getD xs j e) ≡ true → getD nexts j 0 ≡ leader (j + 1) (drop (j + 1) xs)
+
+-- a drop of the extent at `start`
+abbrev pub dropAt : Cut → ℕ → Held → Bool
+dropAt c start d = dropOf c start (d .item)
+
+-- a span of rows with row k in it
+abbrev pub wider : Span → ℕ → Span
+wider s k = record { from = min (s .from) k; to = max (s .to) (k + 1) }
+
+-- arrays with room for a chain of each row, and no head
+pub record Blank (rs : List Row) (ds : List Held) (heads nexts : List ℕ) : Type 0 where
+  pub few : length ds ≤ 65536
+  pub rowRoom : length rs ≤ length heads
+  pub room : length ds ≤ length nexts
+  pub none : (k : ℕ) → k < length rs → getD heads k 0 ≡ 0
+
+-- the drops from index i on are chained by row, and rows outside the span have none
+pub record Linked (c : Cut) (rs : List Row) (ds : List Held) (i : ℕ) (heads nexts : List ℕ) (s : Span) : Type 0 where
+  pub few : length ds ≤ 65536
+  pub rowRoom : length rs ≤ length heads
+  pub room : length ds ≤ length nexts
+  pub starts : (k : ℕ) (e : Row) → k < length rs → getD heads k 0 ≡ leader (dropAt c (getD rs k e .start)) i (drop i ds)
+  pub goes :
+      (k : ℕ) (e : Row) → k < length rs → (j : ℕ) (d : Held) → i ≤ j → j < length ds → dropAt c (getD rs k e .start) (getD ds j d) ≡ true
+      → getD nexts j 0 ≡ leader (dropAt c (getD rs k e .start)) (j + 1) (drop (j + 1) ds)
+  pub low : s .from ≤ length rs
+  pub high : s .to ≤ length rs
+  pub before : (k : ℕ) → k < s .from → getD heads k 0 ≡ 0
+  pub behind : (k : ℕ) → s .to ≤ k → k < length rs → getD heads k 0 ≡ 0
