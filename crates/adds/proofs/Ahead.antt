@@ -14,7 +14,6 @@ use Rattle.item.specs.Items.{Fields}
 use Rattle.table.specs.declared.Row.{Row}
 use Rattle.plan.specs.Plans.{Add}
 use Rattle.plan.specs.Places.{Wanted, placed, placeSound, placesApart, placesSound}
-use Rattle.plan.specs.Outputs.{addNumbers}
 use Rattle.lines.specs.Lines.{Laid}
 use Rattle.lines.proofs.Laws.{Going, going-first, going-turn, going-done}
 use Rattle.lines.proofs.Loops.{going-length}
@@ -95,42 +94,43 @@ module _ (w : NewExtents) (fs : List Fields) (ps : List ℕ) where
   pub testing-done : (test : List Add → Bool) (whole n : ℕ) (c : Cursor) → Testing test whole n c → length ps ≤ n → test [] ≡ true → 0 ≡ whole
   testing-done test whole n c t h e = sym (rw (ahead-none n c h, e) refl) ∙ t .told
 
-  -- ---- the loop that writes the adds
+  -- ---- the loops that write the adds, or their extents: f gives a line's numbers, v of them
 
   -- all of them
   abbrev all : List Add
   all = placed ps (map wantedOf (wishes w fs))
 
-  -- those ahead, appended to the output as it is, give all
-  pub record Adding (out₀ : List ℕ) (n : ℕ) (c : Cursor) (m : ℕ) (out : List ℕ) : Type 0 where
-    pub even : Even n c
-    pub going : Going addNumbers 3 0 all out₀ m (ahead n c) out
+  module _ (f : Add → List ℕ) (v : ℕ) where
+    -- those ahead, appended to the output as it is, give all
+    pub record Adding (out₀ : List ℕ) (n : ℕ) (c : Cursor) (m : ℕ) (out : List ℕ) : Type 0 where
+      pub even : Even n c
+      pub going : Going f v 0 all out₀ m (ahead n c) out
 
-  pub adding-all : (c : Cursor) (out : List ℕ) → c ≡ record { rest = record { start = 0; stop = 0 }; next = 0 } → length (wishes w fs) ≡ length ps → Adding out 0 c 0 out
-  adding-all c out e h = record { even = even-all c e h; going = rw (ahead-all c e) (going-first addNumbers 3 0 all out) }
+    pub adding-all : (c : Cursor) (out : List ℕ) → c ≡ record { rest = record { start = 0; stop = 0 }; next = 0 } → length (wishes w fs) ≡ length ps → Adding out 0 c 0 out
+    adding-all c out e h = record { even = even-all c e h; going = rw (ahead-all c e) (going-first f v 0 all out) }
 
-  module _ (out₀ : List ℕ) (n : ℕ) (c : Cursor) (m : ℕ) (out : List ℕ) (g : Adding out₀ n c m out) where
-    -- a turn
-    module _ (s : Step) (h : n < length ps) (k : Walked w fs c s) where
-      here : Going addNumbers 3 0 all out₀ m ((addOf n s ∷ []) ++ ahead (n + 1) (s .after)) out
-      here = rw (ahead-cons n c s (g .even) h k) at (g .going)
+    module _ (out₀ : List ℕ) (n : ℕ) (c : Cursor) (m : ℕ) (out : List ℕ) (g : Adding out₀ n c m out) where
+      -- a turn
+      module _ (s : Step) (h : n < length ps) (k : Walked w fs c s) where
+        here : Going f v 0 all out₀ m ((addOf n s ∷ []) ++ ahead (n + 1) (s .after)) out
+        here = rw (ahead-cons n c s (g .even) h k) at (g .going)
 
-      -- there are at most as many as places
-      pub adding-room : m + 1 ≤ length ps
-      adding-room = omega (arith, here .lines, placed-most ps (map wantedOf (wishes w fs)))
+        -- there are at most as many as places
+        pub adding-room : m + 1 ≤ length ps
+        adding-room = omega (arith, here .lines, placed-most ps (map wantedOf (wishes w fs)))
 
-      pub adding-turn : (m′ : ℕ) (out′ : List ℕ) → Laid addNumbers 3 m (addOf n s ∷ []) out m′ out′ → Adding out₀ (n + 1) (s .after) m′ out′
-      adding-turn m′ out′ l =
-          record {
-            even = even-next n c s (g .even) h k;
-            going = going-turn addNumbers 3 0 all out₀ m (addOf n s ∷ []) (ahead (n + 1) (s .after)) out m′ out′ here l;
-          }
+        pub adding-turn : (m′ : ℕ) (out′ : List ℕ) → Laid f v m (addOf n s ∷ []) out m′ out′ → Adding out₀ (n + 1) (s .after) m′ out′
+        adding-turn m′ out′ l =
+            record {
+              even = even-next n c s (g .even) h k;
+              going = going-turn f v 0 all out₀ m (addOf n s ∷ []) (ahead (n + 1) (s .after)) out m′ out′ here l;
+            }
 
-    pub adding-done : length ps ≤ n → Laid addNumbers 3 0 all out₀ m out
-    adding-done h = going-done addNumbers 3 0 all out₀ m out (rw (ahead-none n c h) at (g .going))
+      pub adding-done : length ps ≤ n → Laid f v 0 all out₀ m out
+      adding-done h = going-done f v 0 all out₀ m out (rw (ahead-none n c h) at (g .going))
 
-    pub adding-length : length out ≡ length out₀
-    adding-length = going-length addNumbers 3 (omega arith) (λ a. refl) 0 all out₀ m (ahead n c) out (g .going)
+      pub adding-length : 0 < v → ((a : Add) → length (f a) ≡ v) → length out ≡ length out₀
+      adding-length pos wide = going-length f v pos wide 0 all out₀ m (ahead n c) out (g .going)
 
 -- the tests of a first add and those behind it
 pub every-cons : (p : Add → Bool) (a : Add) (l : List Add) → every p (a ∷ l) ≡ (p a && every p l)

@@ -6,7 +6,7 @@ use records::unless;
 ghost use mathlib.Core.Path.{_≡_};
 ghost use mathlib.Core.Bool.{true};
 ghost use mathlib.Core.List.{map};
-ghost use Prim.Native.Nat.{_≤_};
+ghost use Prim.Native.Nat.{_*_, _≤_};
 ghost use lib.ListN.{length, drop};
 ghost use Rattle.records.specs.Stages.{unless, every, pairs};
 ghost use Rattle.item.specs.Items.{items};
@@ -14,6 +14,7 @@ ghost use Rattle.table.specs.Rows.{rows, tableKept};
 ghost use Rattle.plan.specs.Places.{placed, placeSound, placesApart, placesSound};
 ghost use Rattle.plan.specs.Outputs.{addNumbers};
 ghost use Rattle.lines.specs.Lines.{Laid};
+ghost use Rattle.spacing.specs.Spacing.{extentNumbers};
 ghost use Rattle.holes.specs.Walk.{Ends, wishes, left};
 ghost use Rattle.adds.specs.Wishes.{wantedOf, addAt};
 
@@ -59,8 +60,8 @@ fn apart_refusal(
     0
 }
 
-// Refusal 26 of each two places.
-fn pairs_refusal(w: NewExtents, list: &[u8], places: &[u64]) -> u8
+// Refusal 26 of each two places, by pairs.
+fn plain_refusal(w: NewExtents, list: &[u8], places: &[u64]) -> u8
     requires { ⌜ Ends (items (now list)) × (length (wishes w (items (now list))) ≡ length (now places)) ⌝ }
     ensures { λ r. ⌜ r ≡ unless (pairs placesApart (placed (now (places .entry)) (map wantedOf (wishes w (items (now (list .entry))))))) 26 ⌝ }
 {
@@ -74,6 +75,74 @@ fn pairs_refusal(w: NewExtents, list: &[u8], places: &[u64]) -> u8
         c = step.after;
     }
     0
+}
+
+// The extents at their places, each as a pair of its start and length.
+fn put_extents(w: NewExtents, list: &[u8], places: &[u64], out: &mut [u64]) -> usize
+    requires { ⌜ Ends (items (now list)) × (length (wishes w (items (now list))) ≡ length (now places)) ⌝ }
+    ensures { λ r. ⌜ Laid extentNumbers 2 0 (placed (now (places .entry)) (map wantedOf (wishes w (items (now (list .entry)))))) (now (out .entry)) r (now (out .exit)) ⌝ }
+{
+    let mut c = holes::walk_start();
+    let mut k = 0;
+    for n in 0..places.len() {
+        let step = holes::next_piece(w, list, c);
+        k = lines::put_ref(out, k, places[n], step.length);
+        c = step.after;
+    }
+    k
+}
+
+// Refusal 26 of each two places, sorted in lent buffers.
+fn sorted_refusal(
+    w: NewExtents,
+    list: &[u8],
+    places: &[u64],
+    xs: &mut [u64],
+    spare: &mut [u64],
+) -> u8
+    requires { ⌜ Ends (items (now list)) × (length (wishes w (items (now list))) ≡ length (now places)) × (length (now places) * 2 ≤ length (now xs)) × (length (now xs) ≤ length (now spare)) ⌝ }
+    ensures { λ r. ⌜ r ≡ unless (pairs placesApart (placed (now (places .entry)) (map wantedOf (wishes w (items (now (list .entry))))))) 26 ⌝ }
+{
+    let n = put_extents(w, list, places, xs);
+    unless(spacing::are_apart(xs, n, spare), 26)
+}
+
+// The same with buffers of its own, for up to 1,024 places: small ones take less time to zero.
+fn few_refusal(w: NewExtents, list: &[u8], places: &[u64]) -> u8
+    requires { ⌜ Ends (items (now list)) × (length (wishes w (items (now list))) ≡ length (now places)) × (length (now places) ≤ 1024) ⌝ }
+    ensures { λ r. ⌜ r ≡ unless (pairs placesApart (placed (now (places .entry)) (map wantedOf (wishes w (items (now (list .entry))))))) 26 ⌝ }
+{
+    let mut xs = [0u64; 2048];
+    let mut spare = [0u64; 2048];
+    sorted_refusal(w, list, places, &mut xs, &mut spare)
+}
+
+// For up to 65,536.
+fn many_refusal(w: NewExtents, list: &[u8], places: &[u64]) -> u8
+    requires { ⌜ Ends (items (now list)) × (length (wishes w (items (now list))) ≡ length (now places)) × (length (now places) ≤ 65536) ⌝ }
+    ensures { λ r. ⌜ r ≡ unless (pairs placesApart (placed (now (places .entry)) (map wantedOf (wishes w (items (now (list .entry))))))) 26 ⌝ }
+{
+    let mut xs = [0u64; 131072];
+    let mut spare = [0u64; 131072];
+    sorted_refusal(w, list, places, &mut xs, &mut spare)
+}
+
+// Refusal 26 of each two places. Few are compared by pairs.
+fn pairs_refusal(w: NewExtents, list: &[u8], places: &[u64]) -> u8
+    requires { ⌜ Ends (items (now list)) × (length (wishes w (items (now list))) ≡ length (now places)) ⌝ }
+    ensures { λ r. ⌜ r ≡ unless (pairs placesApart (placed (now (places .entry)) (map wantedOf (wishes w (items (now (list .entry))))))) 26 ⌝ }
+{
+    let n = places.len();
+    if n <= 16 {
+        return plain_refusal(w, list, places);
+    }
+    if n <= 1024 {
+        return few_refusal(w, list, places);
+    }
+    if n <= 65536 {
+        return many_refusal(w, list, places);
+    }
+    plain_refusal(w, list, places)
 }
 
 // Refusal 26 of the places of new extents, `wanted` in number: a wrong number of places, or one that is not sound, or two

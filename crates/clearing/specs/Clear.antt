@@ -28,3 +28,11 @@ addFits gone rs a adds = addSound a && (clearFrom gone 0 (a .start) (a .length) 
 unfoldable pub addsFit : (gone : List ℕ) → List Row → List Add → Bool
 addsFit gone rs [] = true
 addsFit gone rs (a ∷ adds) = addFits gone rs a adds && addsFit gone rs adds
+
+-- ---- the same in two parts: each add by itself, and every two
+
+abbrev pub addAlone : (gone : List ℕ) → List Row → Add → Bool
+addAlone gone rs a = addSound a && clearFrom gone 0 (a .start) (a .length) rs
+
+abbrev pub addsApart : Add → Add → Bool
+addsApart a b = clearOf (a .start) (a .length) b

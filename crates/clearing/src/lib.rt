@@ -1,18 +1,23 @@
-// Refusal 3 of the table after a plan: the rows of adds are tested one by one, by pairs, and nothing is written.
+// Refusal 3 of the table after a plan: the rows of adds are tested one by one, then by pairs, and nothing is written.
 use places::is_clear;
 use records::both;
 use records::either;
+use records::first;
 use records::sum_fits;
+use records::unless;
 ghost use mathlib.Core.Path.{_≡_};
+ghost use mathlib.Core.Bool.{true};
 ghost use Prim.Native.Nat.{_+_, _*_, _/_, _≤_, _<_};
 ghost use lib.ListN.{length, drop};
-ghost use Rattle.records.specs.Stages.{unless, every};
-ghost use Rattle.table.specs.Rows.{rows};
+ghost use Rattle.records.specs.Stages.{unless, every, pairs};
+ghost use Rattle.table.specs.Rows.{rows, tableKept};
 ghost use Rattle.plan.specs.Reading.{addOf, addsIn};
-ghost use Rattle.clearing.specs.Clear.{clearFrom, clearOf, addFits, addsFit};
+ghost use Rattle.lines.specs.Lines.{Laid};
+ghost use Rattle.spacing.specs.Spacing.{extentNumbers};
+ghost use Rattle.clearing.specs.Clear.{clearFrom, clearOf, addAlone, addsApart, addsFit};
 
-// Whether a new extent shares no byte with a row that stays.
-fn is_clear_of_rows(table: &[u64], gone: &[u8], start: u64, len: u64) -> bool
+// Whether a new extent shares no byte with a row that stays, row by row.
+fn is_clear_by_row(table: &[u64], gone: &[u8], start: u64, len: u64) -> bool
     requires { ⌜ length (rows (now table)) ≤ length (now gone) ⌝ }
     ensures { λ r. ⌜ r ≡ clearFrom (now (gone .entry)) 0 start len (rows (now (table .entry))) ⌝ }
 {
@@ -26,7 +31,45 @@ fn is_clear_of_rows(table: &[u64], gone: &[u8], start: u64, len: u64) -> bool
     true
 }
 
-// Whether it shares no byte with an add, from number `from` on.
+// The same: an extent that is clear of all rows, as a search by halves says, is clear of those that stay.
+fn is_clear_of_rows(table: &[u64], gone: &[u8], start: u64, len: u64) -> bool
+    requires { ⌜ (tableKept (rows (now table)) ≡ true) × (length (rows (now table)) ≤ length (now gone)) ⌝ }
+    ensures { λ r. ⌜ r ≡ clearFrom (now (gone .entry)) 0 start len (rows (now (table .entry))) ⌝ }
+{
+    if places::place_clear(table, start, len) {
+        return true;
+    }
+    is_clear_by_row(table, gone, start, len)
+}
+
+// Whether add k is sound and clear of the rows that stay.
+fn add_fits(table: &[u64], gone: &[u8], adds: &[u64], k: usize) -> bool
+    requires { ⌜ (tableKept (rows (now table)) ≡ true) × (length (rows (now table)) ≤ length (now gone)) × (k < length (now adds) / 3) ⌝ }
+    ensures { λ r. ⌜ r ≡ addAlone (now (gone .entry)) (rows (now (table .entry))) (addOf (drop (k * 3) (now (adds .entry)))) ⌝ }
+{
+    let at = k * 3;
+    let start = adds[at];
+    let len = adds[at + 1];
+    both(
+        both(both(start != 0, len != 0), sum_fits(start, len)),
+        is_clear_of_rows(table, gone, start, len),
+    )
+}
+
+// Refusal 3 of each add by itself.
+fn each_refusal(table: &[u64], gone: &[u8], adds: &[u64]) -> u8
+    requires { ⌜ (tableKept (rows (now table)) ≡ true) × (length (rows (now table)) ≤ length (now gone)) ⌝ }
+    ensures { λ r. ⌜ r ≡ unless (every (addAlone (now (gone .entry)) (rows (now (table .entry)))) (addsIn (now (adds .entry)))) 3 ⌝ }
+{
+    for k in 0..adds.len() / 3 {
+        if !add_fits(table, gone, adds, k) {
+            return 3;
+        }
+    }
+    0
+}
+
+// Whether a new extent shares no byte with an add, from number `from` on.
 fn is_clear_of_adds(adds: &[u64], from: usize, start: u64, len: u64) -> bool
     requires { ⌜ from ≤ length (now adds) / 3 ⌝ }
     ensures { λ r. ⌜ r ≡ every (clearOf start len) (drop from (addsIn (now (adds .entry)))) ⌝ }
@@ -40,32 +83,84 @@ fn is_clear_of_adds(adds: &[u64], from: usize, start: u64, len: u64) -> bool
     true
 }
 
-// Whether add k is sound, clear of the rows that stay and of the adds behind it.
-fn add_fits(table: &[u64], gone: &[u8], adds: &[u64], k: usize) -> bool
-    requires { ⌜ (length (rows (now table)) ≤ length (now gone)) × (k < length (now adds) / 3) ⌝ }
-    ensures { λ r. ⌜ r ≡ addFits (now (gone .entry)) (rows (now (table .entry))) (addOf (drop (k * 3) (now (adds .entry)))) (drop (k + 1) (addsIn (now (adds .entry)))) ⌝ }
+// Whether every two adds share no byte, by pairs.
+fn plain_apart(adds: &[u64]) -> bool
+    ensures { λ r. ⌜ r ≡ pairs addsApart (addsIn (now (adds .entry))) ⌝ }
 {
-    let at = k * 3;
-    let start = adds[at];
-    let len = adds[at + 1];
-    both(
-        both(both(start != 0, len != 0), sum_fits(start, len)),
-        both(
-            is_clear_of_rows(table, gone, start, len),
-            is_clear_of_adds(adds, k + 1, start, len),
-        ),
-    )
+    for k in 0..adds.len() / 3 {
+        let at = k * 3;
+        if !is_clear_of_adds(adds, k + 1, adds[at], adds[at + 1]) {
+            return false;
+        }
+    }
+    true
+}
+
+// The adds' extents, each as a pair of its start and length.
+fn put_extents(adds: &[u64], out: &mut [u64]) -> usize
+    ensures { λ r. ⌜ Laid extentNumbers 2 0 (addsIn (now (adds .entry))) (now (out .entry)) r (now (out .exit)) ⌝ }
+{
+    let mut m = 0;
+    for k in 0..adds.len() / 3 {
+        let at = k * 3;
+        m = lines::put_ref(out, m, adds[at], adds[at + 1]);
+    }
+    m
+}
+
+// Whether every two adds share no byte, sorted in lent buffers.
+fn sorted_apart(adds: &[u64], xs: &mut [u64], spare: &mut [u64]) -> bool
+    requires { ⌜ (length (now adds) / 3 * 2 ≤ length (now xs)) × (length (now xs) ≤ length (now spare)) ⌝ }
+    ensures { λ r. ⌜ r ≡ pairs addsApart (addsIn (now (adds .entry))) ⌝ }
+{
+    let n = put_extents(adds, xs);
+    spacing::are_apart(xs, n, spare)
+}
+
+// The same with buffers of its own, for up to 1,024 adds: small ones take less time to zero.
+fn few_apart(adds: &[u64]) -> bool
+    requires { ⌜ length (now adds) / 3 ≤ 1024 ⌝ }
+    ensures { λ r. ⌜ r ≡ pairs addsApart (addsIn (now (adds .entry))) ⌝ }
+{
+    let mut xs = [0u64; 2048];
+    let mut spare = [0u64; 2048];
+    sorted_apart(adds, &mut xs, &mut spare)
+}
+
+// For up to 65,536.
+fn many_apart(adds: &[u64]) -> bool
+    requires { ⌜ length (now adds) / 3 ≤ 65536 ⌝ }
+    ensures { λ r. ⌜ r ≡ pairs addsApart (addsIn (now (adds .entry))) ⌝ }
+{
+    let mut xs = [0u64; 131072];
+    let mut spare = [0u64; 131072];
+    sorted_apart(adds, &mut xs, &mut spare)
+}
+
+// Whether every two adds share no byte. Few are compared by pairs.
+fn are_adds_apart(adds: &[u64]) -> bool
+    ensures { λ r. ⌜ r ≡ pairs addsApart (addsIn (now (adds .entry))) ⌝ }
+{
+    let n = adds.len() / 3;
+    if n <= 16 {
+        return plain_apart(adds);
+    }
+    if n <= 1024 {
+        return few_apart(adds);
+    }
+    if n <= 65536 {
+        return many_apart(adds);
+    }
+    plain_apart(adds)
 }
 
 // Refusal 3 of the adds, of which `gone` says what rows they need not be clear of.
 pub fn adds_refusal(table: &[u64], gone: &[u8], adds: &[u64]) -> u8
-    requires { ⌜ length (rows (now table)) ≤ length (now gone) ⌝ }
+    requires { ⌜ (tableKept (rows (now table)) ≡ true) × (length (rows (now table)) ≤ length (now gone)) ⌝ }
     ensures { λ r. ⌜ r ≡ unless (addsFit (now (gone .entry)) (rows (now (table .entry))) (addsIn (now (adds .entry)))) 3 ⌝ }
 {
-    for k in 0..adds.len() / 3 {
-        if !add_fits(table, gone, adds, k) {
-            return 3;
-        }
-    }
-    0
+    first(
+        each_refusal(table, gone, adds),
+        unless(are_adds_apart(adds), 3),
+    )
 }

@@ -2,8 +2,8 @@ use mathlib.Core.Path.{_∙_, ap₂}
 use mathlib.Core.Bool.{Bool, _&&_}
 use denote.Ref.{now}
 use Prim.Native.Nat.{_*_}
-use Rattle.clearing.proofs.Clear.{add-told}
 use borrow.Author.Needs.{needs}
+use Rattle.clearing.proofs.Clear.{add-told}
 use Rattle.clearing.proofs.add_fits.Statement.{statement}
 use Rattle.clearing.proofs.add_fits.Tie as tie
 
@@ -37,24 +37,15 @@ both-requires-2 c κs = search needs
 is-clear-of-rows-requires : tie.Need-is-clear-of-rows-requires
 is-clear-of-rows-requires c κs = search needs
 
-add-is-clear-of-adds : tie.Need-add-is-clear-of-adds
-add-is-clear-of-adds c = search needs
-
-is-clear-of-adds-requires : tie.Need-is-clear-of-adds-requires
-is-clear-of-adds-requires c κs = search needs
-
 both-requires-3 : tie.Need-both-requires-3
 both-requires-3 c κs = search needs
 
-both-requires-4 : tie.Need-both-requires-4
-both-requires-4 c κs = search needs
-
 returns : tie.Need-returns
 returns c =
-    let a = c .before .before .before .before .before .before .before .before .before .before .before .before in
-    c .both4 .ensures
-    ∙ ap₂ (λ (x y : Bool). x && y) (c .before .before .before .before .both2 .ensures ∙ ap₂ (λ (x y : Bool). x && y) (c .before .before .before .before .before .before .both .ensures) (c .before .before .before .before .before .sum-fits .ensures)) (c .before .both3 .ensures ∙ ap₂ (λ (x y : Bool). x && y) (c .before .before .before .is-clear-of-rows .ensures) (c .before .before .is-clear-of-adds .ensures))
-    ∙ add-told (now (a .args .gone)) (now (a .args .adds)) _ (a .args .k * 3) _
+    let a = c .before .before .before .before .before .before .before .before .before .before in
+    c .both3 .ensures
+    ∙ ap₂ (λ (x y : Bool). x && y) (c .before .before .both2 .ensures ∙ ap₂ (λ (x y : Bool). x && y) (c .before .before .before .before .both .ensures) (c .before .before .before .sum-fits .ensures)) (c .before .is-clear-of-rows .ensures)
+    ∙ add-told (now (a .args .gone)) (now (a .args .adds)) _ (a .args .k * 3)
 
 pub add-fits-spec : {M : Type 1} → statement M
 add-fits-spec =
@@ -70,8 +61,5 @@ add-fits-spec =
     sum-fits-requires
     both-requires-2
     is-clear-of-rows-requires
-    add-is-clear-of-adds
-    is-clear-of-adds-requires
     both-requires-3
-    both-requires-4
     returns)

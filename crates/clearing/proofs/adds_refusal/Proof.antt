@@ -1,62 +1,29 @@
-use mathlib.Core.Path.{_≡_, _∙_, refl}
 use denote.Ref.{now}
-use Prim.Native.Nat.{_-_, _/_, _≤_}
-use borrow.Author.Tests.{not-true, not-false}
-use lib.ListN.{length, drop}
-use Rattle.records.specs.Stages.{unless}
+use borrow.Author.Needs.{needs}
 use Rattle.table.specs.Rows.{rows}
 use Rattle.plan.specs.Reading.{addsIn}
-use Rattle.clearing.specs.Clear.{addsFit}
-use Rattle.clearing.proofs.Clear.{fit-turn, fit-stop, fit-done}
-use native.Mathlib.Omega.{arith}
+use Rattle.clearing.proofs.Clear.{fits-told}
 use Rattle.clearing.proofs.adds_refusal.Statement.{statement}
 use Rattle.clearing.proofs.adds_refusal.Tie as tie
 
-abbrev Inv-loop : tie.InvT-loop
-Inv-loop table gone adds k₀ k-end k = (k ≤ k-end) × (k-end ≡ length adds / 3) × (unless (addsFit gone (rows table) (drop k (addsIn adds))) 3 ≡ unless (addsFit gone (rows table) (addsIn adds)) 3)
+each-refusal-requires : tie.Need-each-refusal-requires
+each-refusal-requires c κs = search needs
 
-abbrev μ-loop : tie.MeasureT-loop
-μ-loop table gone adds k₀ k-end k = k-end - k
+are-adds-apart-requires : tie.Need-are-adds-apart-requires
+are-adds-apart-requires c κs = search needs
 
-loop-holds : tie.Need-loop-holds Inv-loop μ-loop
-loop-holds c = (omega arith, omega arith, refl)
+unless-requires : tie.Need-unless-requires
+unless-requires c κs = search needs
 
-add-fits-requires : tie.Need-add-fits-requires Inv-loop μ-loop
-add-fits-requires c κs =
-    let a = c .before .before .before .before .before in
-    (a .pre, omega arith)
+first-requires : tie.Need-first-requires
+first-requires c κs = search needs
 
-returns : tie.Need-returns Inv-loop μ-loop
+returns : tie.Need-returns
 returns c =
     let a = c .before .before .before .before .before .before .before in
-    fit-stop (now (a .args .gone)) (now (a .args .adds)) _ (c .before .before .before .loop .k) _ (omega arith) (c .before .add-fits .ensures) (not-true _ (c .if1 .taken)) ∙ c .before .before .before .loop .inv .2
-
-add-k : tie.Need-add-k Inv-loop μ-loop
-add-k c = omega arith
-
-loop-less : tie.Need-loop-less Inv-loop μ-loop
-loop-less c = omega arith
-
-loop-again : tie.Need-loop-again Inv-loop μ-loop
-loop-again c =
-    let a = c .before .before .before .before .before .before .before in
-    (omega arith, c .before .before .before .loop .inv .1, fit-turn (now (a .args .gone)) (now (a .args .adds)) _ (c .before .before .before .loop .k) _ (omega arith) (c .before .add-fits .ensures) (not-false _ (c .if1 .left)) ∙ c .before .before .before .loop .inv .2)
-
-returns-2 : tie.Need-returns-2 Inv-loop μ-loop
-returns-2 c =
-    let a = c .before .before .before .before .before in
-    fit-done (now (a .args .gone)) (now (a .args .adds)) _ (c .before .loop .k) (omega arith) ∙ c .before .loop .inv .2
+    fits-told (now (a .args .gone)) (rows (now (a .args .table))) (addsIn (now (a .args .adds))) _ _ _ _ (c .before .before .before .each-refusal .ensures) (c .before .before .are-adds-apart .ensures) (c .before .unless .ensures) (c .first .ensures)
 
 pub adds-refusal-spec : {M : Type 1} → statement M
 adds-refusal-spec =
     tie.close
-    (tie.spec
-    Inv-loop
-    μ-loop
-    loop-holds
-    add-fits-requires
-    returns
-    add-k
-    loop-less
-    loop-again
-    returns-2)
+    (tie.spec each-refusal-requires are-adds-apart-requires unless-requires first-requires returns)

@@ -8,8 +8,8 @@ use Rattle.plan.specs.Places.{placed, placesApart}
 use Rattle.holes.specs.Walk.{wishes}
 use Rattle.adds.specs.Wishes.{wantedOf}
 use Rattle.adds.proofs.Ahead.{Testing, even-next, testing-all, testing-turn, testing-stop, testing-done, pairs-cons, pairs-none}
-use Rattle.adds.proofs.pairs_refusal.Statement.{statement}
-use Rattle.adds.proofs.pairs_refusal.Tie as tie
+use Rattle.adds.proofs.plain_refusal.Statement.{statement}
+use Rattle.adds.proofs.plain_refusal.Tie as tie
 
 abbrev Inv-loop : tie.InvT-loop
 Inv-loop w list places c₀ n₀ n-end c n = Testing w (items list) places (pairs placesApart) (unless (pairs placesApart (placed places (map wantedOf (wishes w (items list))))) 26) n c
@@ -53,8 +53,8 @@ loop-again c = testing-turn _ _ _ _ (λ a l. every (placesApart a) l) (pairs-con
 returns-2 : tie.Need-returns-2 Inv-loop μ-loop
 returns-2 c = testing-done _ _ _ _ _ _ _ (c .before .loop .inv) (c .loop-test .left) (pairs-none _)
 
-pub pairs-refusal-spec : {M : Type 1} → statement M
-pairs-refusal-spec =
+pub plain-refusal-spec : {M : Type 1} → statement M
+plain-refusal-spec =
     tie.close
     (tie.spec
     Inv-loop
