@@ -19,7 +19,7 @@ ghost use Rattle.lists.specs.Lists.{rises};
 ghost use Rattle.cut.specs.Pieces.{made, itemsOf, insertAll, countedBytes};
 ghost use Rattle.edits.specs.Pieced.{pieceItems};
 ghost use Rattle.cut.specs.Edits.{edits};
-ghost use Rattle.segment.specs.Segments.{segmentOf, Good};
+ghost use Rattle.segment.specs.Segments.{segmentOf, Good, Runs};
 ghost use Rattle.plan.specs.Outputs.{editBytes, refNumbers, writeNumbers};
 ghost use Rattle.lines.specs.Lines.{Laid};
 ghost use Rattle.change.specs.Rewrites.{writeInPlace};
@@ -96,10 +96,10 @@ fn put_fewer(k: Cut, list: &[u8], seg: &[u8], s: Segment, out: &mut [u64], n: us
 
 // The shares of a plan: splits, then the references that there are more of.
 pub fn put_shares(k: Cut, list: &[u8], seg: &[u8], s: Segment, out: &mut [u64]) -> usize
-    requires { ⌜ Good (now list) s (now seg) × (length (items (now list)) ≤ 65536) × (s .count ≤ 4) ⌝ }
+    requires { ⌜ Good (now list) s (now seg) × (length (items (now list)) ≤ 65536) × (s .count ≤ 4) × Runs 0 (items (now list)) ⌝ }
     ensures { λ m. ⌜ Laid refNumbers 2 0 (sharesOf k (items (now (list .entry))) s (segmentOf s (now (seg .entry)))) (now (out .entry)) m (now (out .exit)) ⌝ }
 {
-    let n = splits::put_splits(list, k.lo, k.hi, k.one, k.two, out, 0);
+    let n = touched::put_splits(k, list, out, 0);
     put_more(k, list, seg, s, out, n)
 }
 
@@ -113,11 +113,11 @@ pub fn put_unrefs(
     s: Segment,
     out: &mut [u64],
 ) -> usize
-    requires { ⌜ Good (now list) s (now seg) × (length (items (now list)) ≤ 65536) × (tableKept (rows (now table)) ≡ true) × (length (now shared) ≡ length (items (now list))) ⌝ }
+    requires { ⌜ Good (now list) s (now seg) × (length (items (now list)) ≤ 65536) × (tableKept (rows (now table)) ≡ true) × (length (now shared) ≡ length (items (now list))) × Runs 0 (items (now list)) ⌝ }
     ensures { λ m. ⌜ Laid refNumbers 2 0 (unrefsOf k (rows (now (table .entry))) (items (now (list .entry))) (now (shared .entry)) s (segmentOf s (now (seg .entry)))) (now (out .entry)) m (now (out .exit)) ⌝ }
 {
     let n = put_fewer(k, list, seg, s, out, 0);
-    drops::put_drops(k, false, list, shared, table, out, n)
+    touched::put_drops(k, false, list, shared, table, out, n)
 }
 
 // ---- edits and bytes

@@ -6,22 +6,26 @@ use Prim.Native.Nat.{ℕ, _+_, _<_, _^_, max}
 use lib.Dec.{eqb, leb}
 use lib.ListN.{length}
 use borrow.Author.Tests.{eqb-true}
-use Rattle.records.specs.Stages.{every}
-use Rattle.records.proofs.Tests.{both-left}
-use Rattle.item.specs.Items.{items}
+use Rattle.records.specs.Stages.{first, stage, every}
+use Rattle.records.proofs.Tests.{both-left, first-zero}
+use Rattle.item.specs.Items.{Fields, items}
 use Rattle.table.specs.Rows.{rows, tableKept}
 use Rattle.request.specs.declared.Volume.{Volume}
 use Rattle.request.specs.declared.File.{File}
 use Rattle.request.specs.declared.Numbers.{Numbers}
 use Rattle.request.specs.Lent.{sectorSound}
 use Rattle.request.specs.Answers.{Outcome, plan, nothing, refused}
+use Rattle.segment.specs.Segments.{Runs}
+use Rattle.segment.proofs.Segments.{kept-runs}
 use Rattle.plan.specs.Plans.{Plan, numbers, told}
 use Rattle.copies.specs.declared.Copying.{Copying}
 use Rattle.copies.specs.Raw.{InFiles, rangeKept}
 use Rattle.copies.specs.Replacing.{planFor}
 use Rattle.cloning.specs.Raw.{Replacing}
 use Rattle.spans.specs.declared.Span.{Span}
+use Rattle.spans.specs.Spans.{destinationRefusal, destinationRecord, growthRefusal}
 use Rattle.clone_plan.specs.Clone.{draftedLent}
+use Rattle.clone_plan.proofs.Planned.{destination-ranged}
 use Rattle.clone.specs.Raw.{meant, copyingOf, lentAsked, destinationAsked, copiesAsked, Chosen}
 use Rattle.clone.proofs.Operating as op
 use Rattle.clone.proofs.Finishing.{replacing-now}
@@ -69,6 +73,15 @@ module _ (v : Volume) (dst src : File) (own : Bool) (s : Span) (list shared sour
 
         pub draft-files : InFiles c
         draft-files = rw copy-is (op.in-files v dst src own s list shared source table ch why asked-lent z some x asked-destination h)
+
+        -- the file's records run one behind the other
+        pub draft-runs : Runs 0 (items list)
+        draft-runs =
+            let fs : List Fields = items list in
+            let e : destinationAsked (v .sector) own (dst .size) m fs ≡ 0 = sym ex ∙ h in
+            let r = first-zero (destinationRefusal (v .sector) own 0 (dst .size) (m .from) (m .to) (m .length)) (first (stage destinationRecord fs) (growthRefusal (v .sector) (dst .size) (m .to) (m .length) fs)) e .1 in
+            let q = first-zero (stage destinationRecord fs) (growthRefusal (v .sector) (dst .size) (m .to) (m .length) fs) r .0 in
+            kept-runs (dst .number) fs (op.lent-facts v dst src own s list shared source table ch why asked-lent z .destination .kept) (destination-ranged fs q)
 
         pub draft-size : m .to + m .length < 2 ^ 64
         draft-size = rw em (op.size-fits v dst src own s list shared source table ch why asked-lent z some x asked-destination h)

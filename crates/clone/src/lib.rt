@@ -15,6 +15,7 @@ ghost use Prim.Native.Nat.{ℕ, _+_, _-_, _<_, _^_};
 ghost use lib.ListN.{length};
 ghost use Rattle.records.specs.Stages.{every};
 ghost use Rattle.item.specs.Items.{items};
+ghost use Rattle.segment.specs.Segments.{Runs};
 ghost use Rattle.table.specs.Rows.{rows, tableKept};
 ghost use Rattle.request.specs.Lent.{sectorSound};
 ghost use Rattle.request.specs.Answers.{plan, said};
@@ -75,12 +76,12 @@ fn destination_asked(sector: u64, own: bool, size: u64, s: Span, list: &[u8]) ->
 // The refusals of drops, of splits and of the source's records, and 13. The shared bytes do not count.
 fn copies_asked(generation: u64, c: Copying, list: &[u8], source: &[u8], table: &[u64]) -> u8
     requires { ⌜ tableKept (rows (now table)) ≡ true ⌝ }
-    requires { ⌜ InFiles c × (every rangeKept (items (now source)) ≡ true) ⌝ }
+    requires { ⌜ InFiles c × (every rangeKept (items (now source)) ≡ true) × Runs 0 (items (now list)) ⌝ }
     ensures { λ r. ⌜ ((bs : List ℕ) → length bs ≡ length (items (now (list .entry))) → r ≡ copiesAsked generation c (items (now (list .entry))) bs (items (now (source .entry))) (rows (now (table .entry)))) ⌝ }
 {
     let k = cloning::cut_for(c);
-    let drop = drops::drops_refusal(k, list, table);
-    let split = splits::splits_refusal(list, table, k.lo, k.hi);
+    let drop = touched::drops_refusal(k, list, table);
+    let split = touched::splits_refusal(list, table, k.lo, k.hi);
     let records = copies::source_records(c, table, source);
     let last = unless(generation != 18446744073709551615, 13);
     first(drop, first(split, first(records, last)))

@@ -6,9 +6,12 @@ use native.Mathlib.Omega.{arith}
 use lib.ListN.{length}
 use Rattle.records.specs.Select.{keep}
 use Rattle.item.specs.Items.{Fields, items}
+use Rattle.lists.proofs.Laws.{well-kept}
 use Rattle.table.specs.declared.Row.{Row}
 use Rattle.cut.specs.Cuts.{split}
 use Rattle.cut.specs.Refs.{Ref, refOf}
+use Rattle.segment.specs.Segments.{Runs}
+use Rattle.segment.proofs.Segments.{kept-runs}
 use Rattle.refs.specs.Drops.{releases, unrefs}
 use Rattle.plan.specs.Outputs.{Outs, refNumbers, writeNumbers}
 use Rattle.lines.specs.Lines.{Laid}
@@ -27,6 +30,10 @@ use Rattle.copies.specs.Copies.{clones}
 use Rattle.copies.specs.Replacing.{splitsOf, dropsOf, planFor}
 use Rattle.cloning.specs.Raw.{cutFor, Placing}
 use Rattle.cloning.proofs.Placed.{splits-plain}
+
+-- the file's records run one behind the other
+pub placing-runs : (c : Copying) (before source : List Fields) → Placing c before source → Runs 0 before
+placing-runs c before source p = kept-runs (c .number) before (well-kept (c .number) before (p .kept)) (p .ranges)
 
 module _ (c : Copying) (k : Cut) (e : k ≡ cutFor c) where
   abbrev kept-splits : List Fields → List Ref

@@ -41,7 +41,7 @@ fn put_shares(c: Copying, k: Cut, list: &[u8], source: &[u8], out: &mut [u64]) -
     requires { ⌜ (k ≡ cutFor c) × Placing c (items (now list)) (items (now source)) ⌝ }
     ensures { λ m. ⌜ Laid refNumbers 2 0 (splitsOf c (items (now (list .entry))) ++ map refOf (clones c (items (now (source .entry))))) (now (out .entry)) m (now (out .exit)) ⌝ }
 {
-    let n = splits::put_splits(list, k.lo, k.hi, k.one, k.two, out, 0);
+    let n = touched::put_splits(k, list, out, 0);
     copying::put_copy_refs(c, source, out, n)
 }
 
@@ -62,8 +62,8 @@ fn lay_refs(
     let k = cut_for(c);
     RefCounts {
         shares: put_shares(c, k, list, source, shares),
-        unrefs: drops::put_drops(k, false, list, shared, table, unrefs, 0),
-        releases: drops::put_drops(k, true, list, shared, table, releases, 0),
+        unrefs: touched::put_drops(k, false, list, shared, table, unrefs, 0),
+        releases: touched::put_drops(k, true, list, shared, table, releases, 0),
     }
 }
 

@@ -58,7 +58,7 @@ fn lay_refs(
     RefCounts {
         shares: changed_lines::put_shares(k, list, &seg, s, shares),
         unrefs: changed_lines::put_unrefs(k, list, shared, table, &seg, s, unrefs),
-        releases: drops::put_drops(k, true, list, shared, table, releases, 0),
+        releases: touched::put_drops(k, true, list, shared, table, releases, 0),
     }
 }
 

@@ -91,9 +91,9 @@ pub fn change_refusal(
     if v.generation == 18446744073709551615 {
         return 13;
     }
-    let split = splits::splits_refusal(list, table, c.lo, c.hi);
+    let split = touched::splits_refusal(list, table, c.lo, c.hi);
     let rewrite = rewrites_refusal(v, f, c, list, shared, table);
     let share = shares_refusal(v, c, p, list, table);
-    let drop = drops::drops_refusal(changed_lines::cut_of(c, p), list, table);
+    let drop = touched::drops_refusal(changed_lines::cut_of(c, p), list, table);
     first(split, first(rewrite, first(share, drop)))
 }

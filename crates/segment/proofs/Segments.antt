@@ -2,19 +2,18 @@
 use mathlib.Core.Path.{_≡_, refl, ap, _∙_, sym}
 use mathlib.Core.Bool.{Bool, true, false, cond}
 use mathlib.Core.List.{List, [], _∷_, _++_, append-assoc}
-use Prim.Native.Nat.{ℕ, zero, suc, _+_, _-_, _/_, _^_, _≤_, _<_}
+use Prim.Native.Nat.{ℕ, zero, suc, _+_, _-_, _^_, _≤_, _<_}
 use native.Mathlib.Omega.{arith}
 use native.Mathlib.Nat.{add-zero}
 use lib.Dec.{ltb}
 use lib.ListN.{length, getD, take, drop, length-drop, length-append}
-use lib.Seq.{drop-drop, getD-drop, take-length}
+use lib.Seq.{drop-drop, getD-drop}
 use borrow.Author.Tests.{leb-true, leb-false, ltb-true, le-leb, lt-ltb}
 use Rattle.records.specs.Stages.{every}
 use Rattle.records.specs.Select.{only}
 use Rattle.records.proofs.Tests.{both, every-map}
 use Rattle.records.proofs.Lists.{every-append}
 use Rattle.item.specs.Items.{Fields, ranged, items, end}
-use Rattle.item.proofs.Laws.{items-length}
 use Rattle.cut.specs.Cuts.{front, back}
 use Rattle.cut.specs.Pieces.{cutPieces, replaced}
 use Rattle.lists.specs.Lists.{wellKept}
@@ -22,6 +21,7 @@ use Rattle.lists.proofs.Laws.{kept}
 use Rattle.cut.proofs.Kept.{From, kept-from}
 use Rattle.segment.specs.Segments.{nothing, itemAt, leading, endsBy, startsBy, startsPast, bounded, Runs, Added, Around, Cutting}
 use Rattle.segment.proofs.Buffer.{added-few}
+use Rattle.segment.proofs.Halves.{leading-on}
 use Rattle.segment.proofs.Cutting.{leading-most, every-leading, cut-empty, cut-whole, leaves}
 
 -- ---- items that run one behind the other
@@ -62,7 +62,7 @@ pub runs-item : (list : List ℕ) (i : ℕ) (x : Fields) → Runs 0 (items list)
 runs-item list i x r h e = rw e (runs-at 0 (items list) i r h)
 
 -- behind the leading ones that start at most at j, all start past k ≤ j
-past-leading : (j k b : ℕ) (fs : List Fields) → Runs b fs → k ≤ j → every (startsPast k) (drop (leading (startsBy j) fs) fs) ≡ true
+pub past-leading : (j k b : ℕ) (fs : List Fields) → Runs b fs → k ≤ j → every (startsPast k) (drop (leading (startsBy j) fs) fs) ≡ true
 unfolding leading
 past-leading j k b [] r h = unfold every in refl
 past-leading j k b (f ∷ fs) r h = go (startsBy j f) refl (past-leading j k (end f) fs (r .4) h)
@@ -99,9 +99,9 @@ cut-nothing lo hi list seg h r =
 
 module _ (lo hi : ℕ) (list : List ℕ) (from to : ℕ) (some : lo < hi) (r : Runs 0 (items list))
     (hf : from ≡ leading (endsBy lo) (items list))
-    (ht : to ≡ from + leading (startsBy (hi - 1)) (drop from (take (length list / 70) (items list)))) where
+    (ht : to ≡ leading (startsBy (hi - 1)) (items list)) where
   to-told : to ≡ from + leading (startsBy (hi - 1)) (drop from (items list))
-  to-told = rw take-length at (rw (← items-length list) at ht)
+  to-told = ht ∙ rw hf (leading-on (endsBy lo) (startsBy (hi - 1)) (λ f e. le-leb (f .key) (hi - 1) (omega (arith, leb-true (end f) lo e))) (items list))
 
   whole : cutPieces lo hi (items list) ≡ replaced (items list) from to (leaves lo hi some (drop from (items list)) (to - from))
   whole =

@@ -1,14 +1,16 @@
 -- A segment: the few items of a file's list that a change makes anew, in a buffer beside the lent list.
 use mathlib.Core.Path.{_≡_}
-use mathlib.Core.Bool.{Bool, true, cond}
+use mathlib.Core.Bool.{Bool, true, cond, not}
 use mathlib.Core.List.{List, [], _∷_, _++_}
 use Prim.Native.Nat.{ℕ, suc, _+_, _^_, _≤_, _<_}
 use lib.Dec.{leb, ltb}
 use lib.ListN.{length, getD, take, drop}
 use Rattle.records.specs.Stages.{every}
 use Rattle.item.specs.Items.{Fields, items, end, regularItem}
+use Rattle.cut.specs.Cuts.{touched}
 use Rattle.cut.specs.Pieces.{Piece, replaced, cutPieces}
 use Rattle.segment.specs.declared.Segment.{Segment}
+use Rattle.segment.specs.declared.Span.{Span}
 
 -- what stands for an item past a list's end
 abbrev pub nothing : Fields
@@ -66,6 +68,16 @@ startsPast k f = ltb k (f .key)
 pub record Around (k : ℕ) (list : List ℕ) (s : Segment) : Type 0 where
   pub before : every (startsBy k) (take (s .from) (items list)) ≡ true
   pub behind : every (startsPast k) (drop (s .to) (items list)) ≡ true
+
+-- all that a cut of [lo, hi) touches is among records from..to
+abbrev pub untouched : ℕ → ℕ → Fields → Bool
+untouched lo hi f = not (touched lo hi f)
+
+pub record Touching (lo hi : ℕ) (fs : List Fields) (s : Span) : Type 0 where
+  pub order : s .from ≤ s .to
+  pub inside : s .to ≤ length fs
+  pub before : every (untouched lo hi) (take (s .from) fs) ≡ true
+  pub behind : every (untouched lo hi) (drop (s .to) fs) ≡ true
 
 -- what a cut of [lo, hi) gives
 pub record Cutting (lo hi : ℕ) (list : List ℕ) (s : Segment) (seg : List ℕ) : Type 0 where

@@ -11,13 +11,19 @@ ghost use lib.ListN.{length, set, take, drop};
 ghost use Rattle.records.specs.Select.{only};
 ghost use Rattle.item.specs.Items.{fields, items, end};
 ghost use Rattle.cut.specs.Cuts.{front, back};
-ghost use Rattle.segment.specs.Segments.{itemAt, Added, leading, endsBy, startsBy, Runs, Cutting, Inserted};
+ghost use Rattle.segment.specs.Segments.{itemAt, Added, leading, endsBy, startsBy, Runs, Touching, Cutting, Inserted};
 
 // Records from..to of a list make way for the first `count` records of a buffer.
 pub struct Segment {
     pub from: usize,
     pub to: usize,
     pub count: usize,
+}
+
+// Records from..to of a list.
+pub struct Span {
+    pub from: usize,
+    pub to: usize,
 }
 
 // ---- a buffer of records
@@ -99,18 +105,42 @@ fn put_back(seg: &mut [u8], n: usize, hi: u64, item: Item) -> usize
     append(seg, n, back_of(hi, item))
 }
 
-// How many records of a list end at most at lo, before the first that does not.
-fn ending_by(list: &[u8], lo: u64) -> usize
+// How many records of a list end at most at lo: by halves, as those that do lead.
+pub fn ending_by(list: &[u8], lo: u64) -> usize
+    requires { ⌜ Runs 0 (items (now list)) ⌝ }
     ensures { λ r. ⌜ r ≡ leading (endsBy lo) (items (now (list .entry))) ⌝ }
 {
-    let n = list.len() / 70;
-    for i in 0..n {
-        let item = record_at(list, i);
-        if !sum_at_most(item.key, item.length(), lo) {
-            return i;
+    let mut low = 0;
+    let mut high = list.len() / 70;
+    while low < high {
+        let mid = low + (high - low) / 2;
+        let item = record_at(list, mid);
+        if sum_at_most(item.key, item.length(), lo) {
+            low = mid + 1;
+        } else {
+            high = mid;
         }
     }
-    n
+    low
+}
+
+// How many start at most at a key, by halves too.
+fn started_by(list: &[u8], key: u64) -> usize
+    requires { ⌜ Runs 0 (items (now list)) ⌝ }
+    ensures { λ r. ⌜ r ≡ leading (startsBy key) (items (now (list .entry))) ⌝ }
+{
+    let mut low = 0;
+    let mut high = list.len() / 70;
+    while low < high {
+        let mid = low + (high - low) / 2;
+        let item = record_at(list, mid);
+        if item.key <= key {
+            low = mid + 1;
+        } else {
+            high = mid;
+        }
+    }
+    low
 }
 
 // The number of the first of n records, from `start` on, that starts past a key; n where there is none.
@@ -127,6 +157,19 @@ pub fn starting_by(list: &[u8], start: usize, n: usize, key: u64) -> usize
     n
 }
 
+// The records that [lo, hi) touches stand one behind the other.
+pub fn touched(list: &[u8], lo: u64, hi: u64) -> Span
+    requires { ⌜ Runs 0 (items (now list)) ⌝ }
+    ensures { λ r. ⌜ Touching lo hi (items (now (list .entry))) r ⌝ }
+{
+    if hi <= lo {
+        return Span { from: 0, to: 0 };
+    }
+    let from = ending_by(list, lo);
+    let to = started_by(list, hi - 1);
+    Span { from, to }
+}
+
 // [lo, hi) taken out of a list: the records that it touches make way for the first one's front and the last one's back.
 pub fn cut_segment(list: &[u8], lo: u64, hi: u64, seg: &mut [u8]) -> Segment
     requires { ⌜ Runs 0 (items (now list)) × (140 ≤ length (now seg)) ⌝ }
@@ -140,7 +183,7 @@ pub fn cut_segment(list: &[u8], lo: u64, hi: u64, seg: &mut [u8]) -> Segment
         };
     }
     let from = ending_by(list, lo);
-    let to = starting_by(list, from, list.len() / 70, hi - 1);
+    let to = started_by(list, hi - 1);
     if from == to {
         return Segment { from, to, count: 0 };
     }

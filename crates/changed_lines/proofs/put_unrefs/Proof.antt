@@ -16,7 +16,7 @@ put-fewer-requires : tie.Need-put-fewer-requires
 put-fewer-requires c κs = search needs
 
 put-drops-requires : tie.Need-put-drops-requires
-put-drops-requires c κs = let a = c .before .before .before .before .before .before .before .before .before .before .args in let q = c .before .before .before .before .before .before .before .before .before .before .pre in let fs = items (now (a .list)) in (q .2, (q .3, omega (arith, q .1, c .before .before .before .put-fewer .ensures .lines, compared-most (a .k .one ∷ a .k .two ∷ []) (middle fs (a .s)) (segmentOf (a .s) (now (a .seg))), middle-most fs (a .s))))
+put-drops-requires c κs = let a = c .before .before .before .before .before .before .before .before .before .before .args in let q = c .before .before .before .before .before .before .before .before .before .before .pre in let fs = items (now (a .list)) in (q .2, q .3, omega (arith, q .1, c .before .before .before .put-fewer .ensures .lines, compared-most (a .k .one ∷ a .k .two ∷ []) (middle fs (a .s)) (segmentOf (a .s) (now (a .seg))), middle-most fs (a .s)), q .4)
 
 same-length : tie.Need-same-length
 same-length c = search needs

@@ -10,10 +10,10 @@ cut-for-requires : tie.Need-cut-for-requires
 cut-for-requires c κs = search needs
 
 drops-refusal-requires : tie.Need-drops-refusal-requires
-drops-refusal-requires c κs = search needs
+drops-refusal-requires c κs = let q = c .before .before .before .before .pre in (q .0, q .1 .2)
 
 splits-refusal-requires : tie.Need-splits-refusal-requires
-splits-refusal-requires c κs = search needs
+splits-refusal-requires c κs = let q = c .before .before .before .before .before .pre in (q .0, q .1 .2)
 
 source-records-requires : tie.Need-source-records-requires
 source-records-requires c κs = search needs

@@ -1,5 +1,5 @@
 use denote.Ref.{now}
-use Rattle.clone.proofs.Drafting.{draft-lent, draft-nothing, draft-ends, draft-table, draft-sound, draft-asked, draft-files, draft-size, draft-copies, draft-replacing, draft-planned}
+use Rattle.clone.proofs.Drafting.{draft-lent, draft-nothing, draft-ends, draft-table, draft-sound, draft-asked, draft-files, draft-runs, draft-size, draft-copies, draft-replacing, draft-planned}
 use native.Mathlib.Omega.{arith}
 use borrow.Author.Needs.{needs}
 use Rattle.clone.proofs.draft_clone.Statement.{statement}
@@ -27,7 +27,7 @@ copying-of-requires : tie.Need-copying-of-requires
 copying-of-requires c κs = let a = c .before .before .before .before .before .before .before .before .before .before .before .args in draft-ends (a .v) (a .dst) (a .src) (a .own) (a .s) (now (a .list)) (now (a .shared)) (now (a .source)) (now (a .table)) (c .before .before .before .before .before .before .before .before .before .before .before .pre) _ (c .before .before .before .before .before .before .meant .ensures) _ (c .before .before .before .before .before .lent-asked .ensures) (c .before .before .before .before .if1 .left)
 
 copies-asked-requires : tie.Need-copies-asked-requires
-copies-asked-requires c κs = let a = c .before .before .before .before .before .before .before .before .before .before .before .before .args in (draft-table (a .v) (a .dst) (a .src) (a .own) (a .s) (now (a .list)) (now (a .shared)) (now (a .source)) (now (a .table)) (c .before .before .before .before .before .before .before .before .before .before .before .before .pre) _ (c .before .before .before .before .before .before .before .meant .ensures) _ (c .before .before .before .before .before .before .lent-asked .ensures) (c .before .before .before .before .before .if1 .left), (draft-files (a .v) (a .dst) (a .src) (a .own) (a .s) (now (a .list)) (now (a .shared)) (now (a .source)) (now (a .table)) (c .before .before .before .before .before .before .before .before .before .before .before .before .pre) _ (c .before .before .before .before .before .before .before .meant .ensures) _ (c .before .before .before .before .before .before .lent-asked .ensures) (c .before .before .before .before .before .if1 .left) (c .before .before .before .if2 .left) _ (c .before .before .destination-asked .ensures) (c .before .if3 .left) _ (c .copying-of .ensures), draft-sound (a .v) (a .dst) (a .src) (a .own) (a .s) (now (a .list)) (now (a .shared)) (now (a .source)) (now (a .table)) (c .before .before .before .before .before .before .before .before .before .before .before .before .pre) _ (c .before .before .before .before .before .before .before .meant .ensures) _ (c .before .before .before .before .before .before .lent-asked .ensures) (c .before .before .before .before .before .if1 .left)))
+copies-asked-requires c κs = let a = c .before .before .before .before .before .before .before .before .before .before .before .before .args in (draft-table (a .v) (a .dst) (a .src) (a .own) (a .s) (now (a .list)) (now (a .shared)) (now (a .source)) (now (a .table)) (c .before .before .before .before .before .before .before .before .before .before .before .before .pre) _ (c .before .before .before .before .before .before .before .meant .ensures) _ (c .before .before .before .before .before .before .lent-asked .ensures) (c .before .before .before .before .before .if1 .left), (draft-files (a .v) (a .dst) (a .src) (a .own) (a .s) (now (a .list)) (now (a .shared)) (now (a .source)) (now (a .table)) (c .before .before .before .before .before .before .before .before .before .before .before .before .pre) _ (c .before .before .before .before .before .before .before .meant .ensures) _ (c .before .before .before .before .before .before .lent-asked .ensures) (c .before .before .before .before .before .if1 .left) (c .before .before .before .if2 .left) _ (c .before .before .destination-asked .ensures) (c .before .if3 .left) _ (c .copying-of .ensures), draft-sound (a .v) (a .dst) (a .src) (a .own) (a .s) (now (a .list)) (now (a .shared)) (now (a .source)) (now (a .table)) (c .before .before .before .before .before .before .before .before .before .before .before .before .pre) _ (c .before .before .before .before .before .before .before .meant .ensures) _ (c .before .before .before .before .before .before .lent-asked .ensures) (c .before .before .before .before .before .if1 .left), draft-runs (a .v) (a .dst) (a .src) (a .own) (a .s) (now (a .list)) (now (a .shared)) (now (a .source)) (now (a .table)) (c .before .before .before .before .before .before .before .before .before .before .before .before .pre) _ (c .before .before .before .before .before .before .before .meant .ensures) _ (c .before .before .before .before .before .before .lent-asked .ensures) (c .before .before .before .before .before .if1 .left) (c .before .before .before .if2 .left) _ (c .before .before .destination-asked .ensures) (c .before .if3 .left) _ (c .copying-of .ensures)))
 
 returns-4 : tie.Need-returns-4
 returns-4 c = let a = c .before .before .before .before .before .before .before .before .before .before .before .before .before .before .args in draft-copies (a .v) (a .dst) (a .src) (a .own) (a .s) (now (a .list)) (now (a .shared)) (now (a .source)) (now (a .table)) (c .before .before .before .before .before .before .before .before .before .before .before .before .before .before .pre) _ (c .before .before .before .before .before .before .before .before .before .meant .ensures) _ (c .before .before .before .before .before .before .before .before .lent-asked .ensures) (c .before .before .before .before .before .before .before .if1 .left) (c .before .before .before .before .before .if2 .left) _ (c .before .before .before .before .destination-asked .ensures) (c .before .before .before .if3 .left) _ (c .before .before .copying-of .ensures) _ (c .before .copies-asked .ensures) (c .if4 .taken)

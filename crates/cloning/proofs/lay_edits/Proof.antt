@@ -1,8 +1,7 @@
 use denote.Ref.{now}
 use native.Mathlib.Omega.{arith}
 use Rattle.item.specs.Items.{items}
-use Rattle.lists.proofs.Laws.{well-kept}
-use Rattle.segment.proofs.Segments.{kept-runs}
+use Rattle.cloning.proofs.Laid.{placing-runs}
 use borrow.Author.Needs.{needs}
 use Rattle.cloning.proofs.lay_edits.Statement.{statement}
 use Rattle.cloning.proofs.lay_edits.Tie as tie
@@ -14,7 +13,7 @@ slice-aggregate-cut-segment : tie.Need-slice-aggregate-cut-segment
 slice-aggregate-cut-segment c = search needs
 
 cut-segment-requires : tie.Need-cut-segment-requires
-cut-segment-requires c κs = let a = c .before .before .before .before .before .args in let p = c .before .before .before .before .before .pre in (kept-runs (a .c .number) (items (now (a .list))) (well-kept (a .c .number) (items (now (a .list))) (p .kept)) (p .ranges), omega arith)
+cut-segment-requires c κs = let a = c .before .before .before .before .before .args in let p = c .before .before .before .before .before .pre in (placing-runs (a .c) (items (now (a .list))) (items (now (a .source))) p, omega arith)
 
 slice-aggregate-put-changes : tie.Need-slice-aggregate-put-changes
 slice-aggregate-put-changes c = search needs

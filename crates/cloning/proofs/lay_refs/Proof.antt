@@ -1,7 +1,8 @@
 use denote.Ref.{now}
 use Rattle.item.specs.Items.{items}
 use Rattle.table.specs.Rows.{rows}
-use Rattle.cloning.proofs.Laid.{refs-laid}
+use Rattle.cloning.proofs.Laid.{placing-runs, refs-laid}
+use native.Mathlib.Omega.{arith}
 use borrow.Author.Needs.{needs}
 use Rattle.cloning.proofs.lay_refs.Statement.{statement}
 use Rattle.cloning.proofs.lay_refs.Tie as tie
@@ -13,10 +14,10 @@ put-shares-requires : tie.Need-put-shares-requires
 put-shares-requires c κs = search needs
 
 put-drops-requires : tie.Need-put-drops-requires
-put-drops-requires c κs = search needs
+put-drops-requires c κs = let a = c .before .before .before .before .before .before .before .before .before .before .before .before .before .args in let p = c .before .before .before .before .before .before .before .before .before .before .before .before .before .pre in (p .extents, p .shares, omega (arith, p .lists .sized), placing-runs (a .c) (items (now (a .list))) (items (now (a .source))) (p .lists))
 
 put-drops-requires-2 : tie.Need-put-drops-requires-2
-put-drops-requires-2 c κs = search needs
+put-drops-requires-2 c κs = let a = c .before .before .before .before .before .before .before .before .before .before .before .before .before .before .before .before .before .args in let p = c .before .before .before .before .before .before .before .before .before .before .before .before .before .before .before .before .before .pre in (p .extents, p .shares, omega (arith, p .lists .sized), placing-runs (a .c) (items (now (a .list))) (items (now (a .source))) (p .lists))
 
 same-length : tie.Need-same-length
 same-length c = search needs

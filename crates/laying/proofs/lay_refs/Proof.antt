@@ -10,7 +10,7 @@ use Rattle.changed_lines.proofs.cut_of.Reads as cut-of-reads
 use Rattle.changing.proofs.joined_segment.Reads as joined-segment-reads
 use Rattle.changed_lines.proofs.put_shares.Reads as put-shares-reads
 use Rattle.changed_lines.proofs.put_unrefs.Reads as put-unrefs-reads
-use Rattle.drops.proofs.put_drops.Reads as put-drops-reads
+use Rattle.touched.proofs.put_drops.Reads as put-drops-reads
 
 -- src/lib.rt:56:9
 cut-of-requires : tie.Need-cut-of-requires
@@ -30,7 +30,7 @@ slice-aggregate-put-shares c = search needs
 
 -- src/lib.rt:59:17
 put-shares-requires : tie.Need-put-shares-requires
-put-shares-requires c κs = search needs
+put-shares-requires c κs = let a = c .before .before .before .before .before .before .before .before .before .before .before .before .args in let q = c .before .before .before .before .before .before .before .before .before .before .before .before .pre in let m = c .before .before .before .joined-segment .ensures in (m .good, q .sized, m .few, ready-now (a .v) (a .f) (a .c) (a .p) (now (a .list)) (now (a .shared)) (now (a .table)) q .runs)
 
 -- src/lib.rt:60:62
 slice-aggregate-put-unrefs : tie.Need-slice-aggregate-put-unrefs
@@ -38,11 +38,11 @@ slice-aggregate-put-unrefs c = search needs
 
 -- src/lib.rt:60:17
 put-unrefs-requires : tie.Need-put-unrefs-requires
-put-unrefs-requires c κs = let q = c .before .before .before .before .before .before .before .before .before .before .before .before .before .before .before .before .before .pre in let m = c .before .before .before .before .before .before .before .before .joined-segment .ensures in (m .good, q .sized, q .fair .sound .table, q .shares)
+put-unrefs-requires c κs = let a = c .before .before .before .before .before .before .before .before .before .before .before .before .before .before .before .before .before .args in let q = c .before .before .before .before .before .before .before .before .before .before .before .before .before .before .before .before .before .pre in let m = c .before .before .before .before .before .before .before .before .joined-segment .ensures in (m .good, q .sized, q .fair .sound .table, q .shares, ready-now (a .v) (a .f) (a .c) (a .p) (now (a .list)) (now (a .shared)) (now (a .table)) q .runs)
 
 -- src/lib.rt:61:19
 put-drops-requires : tie.Need-put-drops-requires
-put-drops-requires c κs = let q = c .before .before .before .before .before .before .before .before .before .before .before .before .before .before .before .before .before .before .before .before .before .pre in (q .fair .sound .table, (q .shares, omega (arith, q .sized)))
+put-drops-requires c κs = let a = c .before .before .before .before .before .before .before .before .before .before .before .before .before .before .before .before .before .before .before .before .before .args in let q = c .before .before .before .before .before .before .before .before .before .before .before .before .before .before .before .before .before .before .before .before .before .pre in (q .fair .sound .table, q .shares, omega (arith, q .sized), ready-now (a .v) (a .f) (a .c) (a .p) (now (a .list)) (now (a .shared)) (now (a .table)) q .runs)
 
 -- src/lib.rt:40:1
 same-length : tie.Need-same-length

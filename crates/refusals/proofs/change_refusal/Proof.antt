@@ -11,7 +11,7 @@ returns : tie.Need-returns
 returns c = let a = c .before .before .before .before .before .args in change-last (a .v) (a .f) (a .c) (a .p) (now (a .list)) (now (a .shared)) (now (a .table)) (c .if1 .taken)
 
 splits-refusal-requires : tie.Need-splits-refusal-requires
-splits-refusal-requires c κs = search needs
+splits-refusal-requires c κs = let a = c .before .before .before .before .before .args in let q = c .before .before .before .before .before .pre in (q .fair .sound .table, ready (a .v) (a .f) (a .c) (a .p) (now (a .list)) (now (a .shared)) (rows (now (a .table))) (q .part) (q .fair) (q .shared) (omega arith) .runs)
 
 rewrites-refusal-requires : tie.Need-rewrites-refusal-requires
 rewrites-refusal-requires c κs = search needs
@@ -23,7 +23,7 @@ cut-of-requires : tie.Need-cut-of-requires
 cut-of-requires c κs = search needs
 
 drops-refusal-requires : tie.Need-drops-refusal-requires
-drops-refusal-requires c κs = search needs
+drops-refusal-requires c κs = let a = c .before .before .before .before .before .before .before .before .before .args in let q = c .before .before .before .before .before .before .before .before .before .pre in (q .fair .sound .table, ready (a .v) (a .f) (a .c) (a .p) (now (a .list)) (now (a .shared)) (rows (now (a .table))) (q .part) (q .fair) (q .shared) (omega arith) .runs)
 
 first-requires : tie.Need-first-requires
 first-requires c κs = search needs

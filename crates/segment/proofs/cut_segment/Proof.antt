@@ -1,11 +1,8 @@
 use Rattle.cut.specs.Cuts.{front}
 use lib.Dec.{ltb}
 use Rattle.segment.proofs.Buffer.{items-room, added-few}
-use Rattle.segment.specs.Segments.{endsBy}
 use Rattle.segment.proofs.Segments.{cut-nothing, cut-none, cut-some, cut-order, runs-item}
-use Rattle.segment.proofs.Cutting.{leading-most}
-use Rattle.item.proofs.Laws.{items-length}
-use Rattle.item.specs.Items.{items, fields}
+use Rattle.item.specs.Items.{fields}
 use Prim.Native.Nat.{_≤_}
 use lib.ListN.{length}
 use denote.Ref.{now}
@@ -18,38 +15,40 @@ returns : tie.Need-returns
 returns c = cut-nothing _ _ _ _ (c .if1 .taken) (c .before .before .before .pre .0)
 
 ending-by-requires : tie.Need-ending-by-requires
-ending-by-requires c κs = search needs
+ending-by-requires c κs = c .before .before .before .pre .0
 
-sub-starting-by : tie.Need-sub-starting-by
-sub-starting-by c = search needs
+sub-started-by : tie.Need-sub-started-by
+sub-started-by c = search needs
 
-starting-by-requires : tie.Need-starting-by-requires
-starting-by-requires c κs = let l = now (c .before .before .before .before .args .list) in (omega (arith, leading-most (endsBy (c .before .before .before .before .args .lo)) (items l), items-length l), omega (arith, items-length l))
+started-by-requires : tie.Need-started-by-requires
+started-by-requires c κs = c .before .before .before .before .pre .0
 
 returns-2 : tie.Need-returns-2
-returns-2 c = cut-none _ _ _ _ _ (omega arith) (c .before .before .before .before .before .before .pre .0) (c .before .before .ending-by .ensures) (c .before .starting-by .ensures) _ (c .if2 .taken)
+returns-2 c = cut-none _ _ _ _ _ (omega arith) (c .before .before .before .before .before .before .pre .0) (c .before .before .ending-by .ensures) (c .before .started-by .ensures) _ (c .if2 .taken)
 
 sub-last : tie.Need-sub-last
-sub-last c = search needs
+sub-last c =
+    let o = cut-order _ _ _ _ _ (omega arith) (c .before .before .before .before .before .before .pre .0) (c .before .before .ending-by .ensures) (c .before .started-by .ensures) in
+    omega arith
 
 record-at-requires : tie.Need-record-at-requires
 record-at-requires c κs =
-    let o = cut-order _ _ _ _ _ (omega arith) (c .before .before .before .before .before .before .before .pre .0) (c .before .before .before .ending-by .ensures) (c .before .before .starting-by .ensures) in
+    let o = cut-order _ _ _ _ _ (omega arith) (c .before .before .before .before .before .before .before .pre .0) (c .before .before .before .ending-by .ensures) (c .before .before .started-by .ensures) in
     omega arith
 
 put-front-requires : tie.Need-put-front-requires
 put-front-requires c κs =
-    let o = cut-order _ _ _ _ _ (omega arith) (c .before .before .before .before .before .before .before .before .pre .0) (c .before .before .before .before .ending-by .ensures) (c .before .before .before .starting-by .ensures) in
+    let o = cut-order _ _ _ _ _ (omega arith) (c .before .before .before .before .before .before .before .before .pre .0) (c .before .before .before .before .ending-by .ensures) (c .before .before .before .started-by .ensures) in
     (omega (arith, items-room 2 (now (c .before .before .before .before .before .before .before .before .args .seg)) (c .before .before .before .before .before .before .before .before .pre .1)), omega (arith, runs-item _ _ _ (c .before .before .before .before .before .before .before .before .pre .0) (omega arith) (c .record-at .ensures)))
 
 record-at-requires-2 : tie.Need-record-at-requires-2
 record-at-requires-2 c κs =
-    let o = cut-order _ _ _ _ _ (omega arith) (c .before .before .before .before .before .before .before .before .before .before .before .before .pre .0) (c .before .before .before .before .before .before .before .before .ending-by .ensures) (c .before .before .before .before .before .before .before .starting-by .ensures) in
+    let o = cut-order _ _ _ _ _ (omega arith) (c .before .before .before .before .before .before .before .before .before .before .before .before .pre .0) (c .before .before .before .before .before .before .before .before .ending-by .ensures) (c .before .before .before .before .before .before .before .started-by .ensures) in
     omega arith
 
 put-back-requires : tie.Need-put-back-requires
 put-back-requires c κs =
-    let o = cut-order _ _ _ _ _ (omega arith) (c .before .before .before .before .before .before .before .before .before .before .before .before .before .pre .0) (c .before .before .before .before .before .before .before .before .before .ending-by .ensures) (c .before .before .before .before .before .before .before .before .starting-by .ensures) in
+    let o = cut-order _ _ _ _ _ (omega arith) (c .before .before .before .before .before .before .before .before .before .before .before .before .before .pre .0) (c .before .before .before .before .before .before .before .before .before .ending-by .ensures) (c .before .before .before .before .before .before .before .before .started-by .ensures) in
     let b = runs-item _ _ _ (c .before .before .before .before .before .before .before .before .before .before .before .before .before .pre .0) (omega arith) (c .record-at2 .ensures) in
     let l : 140 ≤ length (c .before .before .before .before .put-front .last .0) = search needs in
     let r = items-room 2 (c .before .before .before .before .put-front .last .0) l in
@@ -63,8 +62,8 @@ same-length c = search needs
 returns-3 : tie.Need-returns-3
 returns-3 c =
     let l : 140 ≤ length (c .before .before .put-back .last .0) = search needs in
-    let o = cut-order _ _ _ _ _ (omega arith) (c .before .before .before .before .before .before .before .before .before .before .before .before .before .before .before .before .pre .0) (c .before .before .before .before .before .before .before .before .before .before .before .before .ending-by .ensures) (c .before .before .before .before .before .before .before .before .before .before .before .starting-by .ensures) in
-    cut-some _ _ _ _ _ (omega arith) (c .before .before .before .before .before .before .before .before .before .before .before .before .before .before .before .before .pre .0) (c .before .before .before .before .before .before .before .before .before .before .before .before .ending-by .ensures) (c .before .before .before .before .before .before .before .before .before .before .before .starting-by .ensures) _ _ (omega arith) (c .before .before .before .before .before .before .before .before .record-at .ensures) (c .before .before .before .record-at2 .ensures) _ _ _ _ _ (c .before .before .before .before .before .before .before .put-front .ensures) (c .before .before .put-back .ensures) (items-room 2 _ l)
+    let o = cut-order _ _ _ _ _ (omega arith) (c .before .before .before .before .before .before .before .before .before .before .before .before .before .before .before .before .pre .0) (c .before .before .before .before .before .before .before .before .before .before .before .before .ending-by .ensures) (c .before .before .before .before .before .before .before .before .before .before .before .started-by .ensures) in
+    cut-some _ _ _ _ _ (omega arith) (c .before .before .before .before .before .before .before .before .before .before .before .before .before .before .before .before .pre .0) (c .before .before .before .before .before .before .before .before .before .before .before .before .ending-by .ensures) (c .before .before .before .before .before .before .before .before .before .before .before .started-by .ensures) _ _ (omega arith) (c .before .before .before .before .before .before .before .before .record-at .ensures) (c .before .before .before .record-at2 .ensures) _ _ _ _ _ (c .before .before .before .before .before .before .before .put-front .ensures) (c .before .before .put-back .ensures) (items-room 2 _ l)
 
 pub cut-segment-spec : {M : Type 1} → statement M
 cut-segment-spec =
@@ -72,8 +71,8 @@ cut-segment-spec =
     (tie.spec
     returns
     ending-by-requires
-    sub-starting-by
-    starting-by-requires
+    sub-started-by
+    started-by-requires
     returns-2
     sub-last
     record-at-requires

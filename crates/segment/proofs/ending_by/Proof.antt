@@ -1,29 +1,34 @@
-use mathlib.Core.Path.{_≡_, _∙_, sym}
+-- By halves: how many items lead lies between low and high.
+use mathlib.Core.Path.{_∙_}
 use denote.Ref.{now}
 use borrow.Author.Needs.{needs}
-use borrow.Author.Tests.{not-true, not-false}
-use Rattle.segment.proofs.Cutting.{leading-turn, leading-stop, leading-done, ends-told}
+use Rattle.segment.proofs.Cutting.{ends-told}
+use Rattle.segment.proofs.Halves.{Halving, halving-all, halving-up, halving-down, halving-done, ends-lead}
 use Rattle.item.proofs.Laws.{items-length}
-use native.Mathlib.Nat.{zero-add}
-use Prim.Native.Nat.{_+_, _-_, _≤_}
+use Prim.Native.Nat.{_-_}
 use Rattle.item.specs.Items.{items}
-use Rattle.segment.specs.Segments.{leading, endsBy}
-use lib.ListN.{length, drop}
+use Rattle.segment.specs.Segments.{endsBy}
 use native.Mathlib.Omega.{arith}
 use Rattle.segment.proofs.ending_by.Statement.{statement}
 use Rattle.segment.proofs.ending_by.Tie as tie
 
 abbrev Inv-loop : tie.InvT-loop
-Inv-loop list lo n i₀ i = (i ≤ n) × (i + leading (endsBy lo) (drop i (items list)) ≡ leading (endsBy lo) (items list))
+Inv-loop list lo low₀ high₀ low high = Halving (endsBy lo) (items list) low high
 
 abbrev μ-loop : tie.MeasureT-loop
-μ-loop list lo n i₀ i = n - i
+μ-loop list lo low₀ high₀ low high = high - low
 
 loop-holds : tie.Need-loop-holds Inv-loop μ-loop
-loop-holds c = (omega arith, zero-add _)
+loop-holds c = halving-all _ _ _ (omega (arith, items-length (now (c .before .args .list))))
+
+sub-mid : tie.Need-sub-mid Inv-loop μ-loop
+sub-mid c = omega arith
+
+add-mid : tie.Need-add-mid Inv-loop μ-loop
+add-mid c = omega (arith, items-length (now (c .before .before .before .args .list)))
 
 record-at-requires : tie.Need-record-at-requires Inv-loop μ-loop
-record-at-requires c κs = omega (arith, items-length (now (c .before .before .before .args .list)))
+record-at-requires c κs = omega arith
 
 length-requires : tie.Need-length-requires Inv-loop μ-loop
 length-requires c κs = search needs
@@ -31,22 +36,23 @@ length-requires c κs = search needs
 sum-at-most-requires : tie.Need-sum-at-most-requires Inv-loop μ-loop
 sum-at-most-requires c κs = search needs
 
-returns : tie.Need-returns Inv-loop μ-loop
-returns c = leading-stop _ _ _ (omega (arith, items-length (now (c .before .before .before .before .before .before .before .args .list)))) (ends-told _ _ _ _ _ (c .before .before .before .record-at .ensures) (c .before .before .length .ensures) (c .before .sum-at-most .ensures) ∙ not-true _ (c .if1 .taken)) ∙ c .before .before .before .before .before .loop .inv .1
-
-add-i : tie.Need-add-i Inv-loop μ-loop
-add-i c = omega arith
+add-low : tie.Need-add-low Inv-loop μ-loop
+add-low c = omega (arith, items-length (now (c .before .before .before .before .before .before .before .args .list)))
 
 loop-less : tie.Need-loop-less Inv-loop μ-loop
 loop-less c = omega arith
 
 loop-again : tie.Need-loop-again Inv-loop μ-loop
-loop-again c = (omega arith, leading-turn _ _ _ (omega (arith, items-length (now (c .before .before .before .before .before .before .before .args .list)))) (ends-told _ _ _ _ _ (c .before .before .before .record-at .ensures) (c .before .before .length .ensures) (c .before .sum-at-most .ensures) ∙ not-false _ (c .if1 .left)) ∙ c .before .before .before .before .before .loop .inv .1)
+loop-again c = halving-up _ _ _ _ _ (c .before .before .before .before .before .loop .inv) (omega arith) (ends-lead (items (now (c .before .before .before .before .before .before .before .args .list))) (c .before .before .before .before .before .before .before .pre) (c .before .before .before .before .before .before .before .args .lo)) (ends-told _ _ _ _ _ (c .before .before .before .record-at .ensures) (c .before .before .length .ensures) (c .before .sum-at-most .ensures) ∙ c .if1 .taken)
 
-returns-2 : tie.Need-returns-2 Inv-loop μ-loop
-returns-2 c =
-    let e : c .before .loop .i ≡ length (items (now (c .before .before .before .args .list))) = omega (arith, items-length (now (c .before .before .before .args .list))) in
-    sym (items-length _) ∙ sym e ∙ leading-done _ _ _ e ∙ c .before .loop .inv .1
+loop-less-2 : tie.Need-loop-less-2 Inv-loop μ-loop
+loop-less-2 c = omega arith
+
+loop-again-2 : tie.Need-loop-again-2 Inv-loop μ-loop
+loop-again-2 c = halving-down _ _ _ _ _ (c .before .before .before .before .before .loop .inv) (omega arith) (ends-told _ _ _ _ _ (c .before .before .before .record-at .ensures) (c .before .before .length .ensures) (c .before .sum-at-most .ensures) ∙ c .if1 .left)
+
+returns : tie.Need-returns Inv-loop μ-loop
+returns c = halving-done _ _ _ _ (c .before .loop .inv) (omega arith)
 
 pub ending-by-spec : {M : Type 1} → statement M
 ending-by-spec =
@@ -55,11 +61,14 @@ ending-by-spec =
     Inv-loop
     μ-loop
     loop-holds
+    sub-mid
+    add-mid
     record-at-requires
     length-requires
     sum-at-most-requires
-    returns
-    add-i
+    add-low
     loop-less
     loop-again
-    returns-2)
+    loop-less-2
+    loop-again-2
+    returns)
