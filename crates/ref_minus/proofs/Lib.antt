@@ -1,0 +1,2 @@
+pub mod Minus
+pub mod Turns

@@ -1,0 +1,141 @@
+// The references of a list to two extents, sorted, less those of another list: one pass over each list, two sorts, and one
+// walk along both.
+use item::Item;
+use records::both;
+use records::counted;
+ghost use mathlib.Core.Path.{_≡_};
+ghost use mathlib.Core.Bool.{true, not};
+ghost use mathlib.Core.List.{[], _∷_};
+ghost use Prim.Native.Nat.{_+_, _*_, _/_, _<_, _≤_, _^_};
+ghost use lib.ListN.{length, take, drop};
+ghost use Rattle.records.specs.Select.{only};
+ghost use Rattle.item.specs.Items.{fields, items};
+ghost use Rattle.refs.specs.Compared.{refsAmong, minus};
+ghost use Rattle.plan.specs.Outputs.{refNumbers};
+ghost use Rattle.plan.specs.Reading.{refsIn};
+ghost use Rattle.lines.specs.Lines.{Laid};
+ghost use Rattle.sorting.specs.Order.{ordered};
+ghost use Rattle.ref_minus.specs.Walk.{refsNamed, refNamed, startsBefore, startsWith, past};
+
+// ---- the references of a list
+
+// An item's reference as line n, if it names one of two extents.
+fn put_named(item: Item, one: u64, two: u64, out: &mut [u64], n: usize) -> usize
+    requires { ⌜ n + 1 < 2 ^ 64 ⌝ }
+    ensures { λ r. ⌜ Laid refNumbers 2 n (refNamed (one ∷ two ∷ []) (fields item)) (now (out .entry)) r (now (out .exit)) ⌝ }
+{
+    if refs::is_among(one, two, item) {
+        return lines::put_ref(out, n, item.extent_start(), item.reference());
+    }
+    n
+}
+
+// Those of all items, as lines.
+fn collect(list: &[u8], one: u64, two: u64, out: &mut [u64]) -> usize
+    ensures { λ r. ⌜ Laid refNumbers 2 0 (refsNamed (one ∷ two ∷ []) (items (now (list .entry)))) (now (out .entry)) r (now (out .exit)) ⌝ }
+{
+    let k = list.len() / 70;
+    let mut m: usize = 0;
+    for i in 0..k {
+        m = put_named(item::item_at(list, i), one, two, out, m);
+    }
+    m
+}
+
+// Those of all items in order, as the first lines of a buffer; how many there are.
+fn sorted_refs(list: &[u8], one: u64, two: u64, buf: &mut [u64], spare: &mut [u64]) -> usize
+    requires { ⌜ (length (items (now list)) * 2 ≤ length (now buf)) × (length (now buf) ≤ length (now spare)) ⌝ }
+    ensures { λ r. ⌜ (r ≤ length (items (now (list .entry)))) × (refsIn (take (r * 2) (now (buf .exit))) ≡ refsAmong (one ∷ two ∷ []) (items (now (list .entry)))) ⌝ }
+{
+    let n = collect(list, one, two, buf);
+    let end = n * 2;
+    sorting::sort_refs(&mut buf[..end], spare);
+    n
+}
+
+// ---- two lists in order
+
+// Whether pair k of a slice is there and is before the pair s, p.
+fn is_earlier(ys: &[u64], k: usize, s: u64, p: u64) -> bool
+    ensures { λ r. ⌜ r ≡ startsBefore (record { start = s; offset = p }) (drop k (refsIn (now (ys .entry)))) ⌝ }
+{
+    if k < ys.len() / 2 {
+        return sorting::is_before(ys[k * 2], ys[k * 2 + 1], s, p);
+    }
+    false
+}
+
+// Whether pair k of a slice is there and is the pair s, p.
+fn is_there(ys: &[u64], k: usize, s: u64, p: u64) -> bool
+    ensures { λ r. ⌜ r ≡ startsWith (record { start = s; offset = p }) (drop k (refsIn (now (ys .entry)))) ⌝ }
+{
+    if k < ys.len() / 2 {
+        return both(ys[k * 2] == s, ys[k * 2 + 1] == p);
+    }
+    false
+}
+
+// From pair j of a slice on, the first that is not before the pair s, p.
+fn skip(ys: &[u64], j: usize, s: u64, p: u64) -> usize
+    requires { ⌜ j ≤ length (now ys) / 2 ⌝ }
+    ensures { λ r. ⌜ (r ≤ length (now (ys .entry)) / 2) × (drop r (refsIn (now (ys .entry))) ≡ past (record { start = s; offset = p }) (drop j (refsIn (now (ys .entry))))) ⌝ }
+{
+    let mut k = j;
+    while is_earlier(ys, k, s, p) {
+        k += 1;
+    }
+    k
+}
+
+// A pair as line n, unless it is met.
+fn put_unless(met: bool, out: &mut [u64], n: usize, s: u64, p: u64) -> usize
+    requires { ⌜ n + 1 < 2 ^ 64 ⌝ }
+    ensures { λ r. ⌜ Laid refNumbers 2 n (only (not met) (record { start = s; offset = p })) (now (out .entry)) r (now (out .exit)) ⌝ }
+{
+    if met {
+        return n;
+    }
+    lines::put_ref(out, n, s, p)
+}
+
+// The pairs of xs that are left without those of ys, as lines; both are in order.
+fn put_minus(xs: &[u64], ys: &[u64], out: &mut [u64], n: usize) -> usize
+    requires { ⌜ (ordered (refsIn (now xs)) ≡ true) × (ordered (refsIn (now ys)) ≡ true) × (n + length (now xs) / 2 < 2 ^ 64) ⌝ }
+    ensures { λ r. ⌜ Laid refNumbers 2 n (minus (refsIn (now (xs .entry))) (refsIn (now (ys .entry)))) (now (out .entry)) r (now (out .exit)) ⌝ }
+{
+    let k = xs.len() / 2;
+    let mut j: usize = 0;
+    let mut m = n;
+    for i in 0..k {
+        let s = xs[i * 2];
+        let p = xs[i * 2 + 1];
+        let at = skip(ys, j, s, p);
+        let met = is_there(ys, at, s, p);
+        m = put_unless(met, out, m, s, p);
+        j = counted(at, met);
+    }
+    m
+}
+
+// A line for each reference to two extents that the items of x have more often than those of y, in order. The buffers are
+// lent, two numbers for each item; what is left in them means nothing.
+pub fn put_difference(
+    x: &[u8],
+    y: &[u8],
+    one: u64,
+    two: u64,
+    xs: &mut [u64],
+    ys: &mut [u64],
+    spare: &mut [u64],
+    out: &mut [u64],
+    n: usize,
+) -> usize
+    requires { ⌜ (n + length (items (now x)) < 2 ^ 64) × (length (items (now x)) * 2 ≤ length (now xs)) × (length (items (now y)) * 2 ≤ length (now ys)) × (length (now xs) ≤ length (now spare)) × (length (now ys) ≤ length (now spare)) ⌝ }
+    ensures { λ r. ⌜ Laid refNumbers 2 n (minus (refsAmong (one ∷ two ∷ []) (items (now (x .entry)))) (refsAmong (one ∷ two ∷ []) (items (now (y .entry))))) (now (out .entry)) r (now (out .exit)) ⌝ }
+{
+    let k = sorted_refs(x, one, two, xs, spare);
+    let m = sorted_refs(y, one, two, ys, spare);
+    let end = k * 2;
+    let stop = m * 2;
+    put_minus(&xs[..end], &ys[..stop], out, n)
+}
