@@ -1,0 +1,5 @@
+pub mod Order
+pub mod Unique
+pub mod Pairs
+pub mod Merging
+pub mod Halves
