@@ -25,7 +25,7 @@ use Rattle.apply_refusals.specs.Stages.{Ready, resultRefusal, Stands}
 use Rattle.apply_refusals.proofs.Results.{items-now, rows-now, nets-fit}
 use Rattle.apply.specs.declared.Applied.{Applied}
 use Rattle.apply.specs.declared.Applied.the-variants.{Done, Refused}
-use Rattle.apply.specs.Outcomes.{done, Met}
+use Rattle.apply.specs.Outcomes.{done, Met, Zeros}
 use Rattle.apply.proofs.Accepted.{apply-is}
 
 -- a refusal that is due
@@ -122,14 +122,10 @@ module _ (number sector generation n m : ℕ) (list table edits adds g l d : Lis
 
 -- ---- arrays of zeros
 
-pub zeros : (n k : ℕ) → k ≤ n → (y : ℕ) → y < k → getD {A = ℕ} (replicate n 0) y 0 ≡ 0
-zeros n k h y l = getD-replicate {A = ℕ} n y 0 0 (omega arith)
+pub zeroed : (n k : ℕ) → k ≤ n → Zeros k (replicate n 0) (replicate n 0) (replicate n 0)
+zeroed n k h =
+    let l : k ≤ length {A = ℕ} (replicate n 0) = rw (length-replicate {A = ℕ} n 0) h in
+    record { gains = l; losses = l; leaves = l; zero = λ y m. let z : getD {A = ℕ} (replicate n 0) y 0 ≡ 0 = getD-replicate {A = ℕ} n y 0 0 (omega arith) in (z, z, z) }
 
 pub met-same : (o o′ : Applying) (r : Applied) (list list′ table table′ : List ℕ) → o ≡ o′ → Met o′ r list list′ table table′ → Met o r list list′ table table′
 met-same o o′ r list list′ table table′ e m = rw e m
-
-pub array-room : (n k m : ℕ) → m ≡ k → k ≤ n → m ≤ length {A = ℕ} (replicate n 0)
-array-room n k m e h = rw (length-replicate {A = ℕ} n 0) (omega arith)
-
-pub array-after : (n k : ℕ) (l : List ℕ) → length l ≡ length {A = ℕ} (replicate n 0) → k ≤ n → k ≤ length l
-array-after n k l e h = rw (e ∙ length-replicate {A = ℕ} n 0) h

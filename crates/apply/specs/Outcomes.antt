@@ -1,8 +1,8 @@
 -- What applying answers, and what it leaves in the list and the table that it was lent.
 use mathlib.Core.List.{List}
 use mathlib.Core.Path.{_≡_}
-use Prim.Native.Nat.{ℕ}
-use lib.ListN.{length}
+use Prim.Native.Nat.{ℕ, _<_, _≤_}
+use lib.ListN.{length, getD}
 use Rattle.table.specs.Rows.{rowNumbers}
 use Rattle.item.specs.Items.{encode}
 use Rattle.plan.specs.Outputs.{laid}
@@ -38,3 +38,10 @@ pub record Met (o : Applying) (r : Applied) (list list′ table table′ : List 
   pub answer : said r ≡ told o
   pub bytes : list′ ≡ listLeft o list
   pub numbers : table′ ≡ tableLeft o table
+
+-- arrays of zeros with a place for each of so many rows
+pub record Zeros (rows : ℕ) (gained lost gone : List ℕ) : Type 0 where
+  pub gains : rows ≤ length gained
+  pub losses : rows ≤ length lost
+  pub leaves : rows ≤ length gone
+  pub zero : (y : ℕ) → y < rows → (getD gained y 0 ≡ 0) × (getD lost y 0 ≡ 0) × (getD gone y 0 ≡ 0)

@@ -5,7 +5,7 @@ ghost use Rattle.plan.specs.Plans.{Plan};
 ghost use Rattle.applying.specs.Apply.{apply};
 ghost use Rattle.applying.specs.Lent.{itemsIn, rowsIn, planLent, applyLent};
 ghost use Rattle.apply_refusals.specs.Stages.{partsOf, Ready, Stands};
-ghost use Rattle.apply.specs.Outcomes.{Met};
+ghost use Rattle.apply.specs.Outcomes.{Met, Zeros};
 
 // How many records and rows there are after a plan.
 pub struct Sizes {
@@ -64,8 +64,138 @@ fn apply_counted(
     Applied::Done(Sizes { items: n, rows: m })
 }
 
-// A plan applied, where what is lent is accepted.
-fn apply_ready(
+// A plan applied, where what is lent is accepted; its lines are counted by row in arrays of zeros.
+fn apply_zeroed(
+    number: u64,
+    sector: u64,
+    generation: u64,
+    list: &mut [u8],
+    items: usize,
+    table: &mut [u64],
+    rows: usize,
+    edits: &[u8],
+    shares: &[u64],
+    unrefs: &[u64],
+    releases: &[u64],
+    adds: &[u64],
+    gained: &mut [u64],
+    lost: &mut [u64],
+    gone: &mut [u8],
+) -> Applied
+    requires { ⌜ Ready number sector items rows (now list) (now table) (now edits) × Zeros rows (now gained) (now lost) (now gone) ⌝ }
+    ensures { λ r. ⌜ Met (apply sector number generation (length (now (list .entry)) / 70) (length (now (table .entry)) / 5) (itemsIn items (now (list .entry))) (rowsIn rows (now (table .entry))) (planLent (partsOf (now (edits .entry)) (now (shares .entry)) (now (unrefs .entry)) (now (releases .entry)) (now (adds .entry))))) r (now (list .entry)) (now (list .exit)) (now (table .entry)) (now (table .exit)) ⌝ }
+{
+    let stop = rows * 5;
+    let missing = counting::count_lines(
+        &table[..stop],
+        shares,
+        unrefs,
+        releases,
+        gained,
+        lost,
+        gone,
+    );
+    apply_counted(
+        number,
+        sector,
+        generation,
+        list,
+        items,
+        table,
+        rows,
+        edits,
+        adds,
+        gained,
+        lost,
+        gone,
+        missing,
+    )
+}
+
+// The arrays are as long as the table needs: to zero 65,536 counts takes longer than to apply a small plan.
+
+// With at most 64 rows.
+fn apply_to_few(
+    number: u64,
+    sector: u64,
+    generation: u64,
+    list: &mut [u8],
+    items: usize,
+    table: &mut [u64],
+    rows: usize,
+    edits: &[u8],
+    shares: &[u64],
+    unrefs: &[u64],
+    releases: &[u64],
+    adds: &[u64],
+) -> Applied
+    requires { ⌜ Ready number sector items rows (now list) (now table) (now edits) × (rows ≤ 64) ⌝ }
+    ensures { λ r. ⌜ Met (apply sector number generation (length (now (list .entry)) / 70) (length (now (table .entry)) / 5) (itemsIn items (now (list .entry))) (rowsIn rows (now (table .entry))) (planLent (partsOf (now (edits .entry)) (now (shares .entry)) (now (unrefs .entry)) (now (releases .entry)) (now (adds .entry))))) r (now (list .entry)) (now (list .exit)) (now (table .entry)) (now (table .exit)) ⌝ }
+{
+    let mut gained = [0u64; 64];
+    let mut lost = [0u64; 64];
+    let mut gone = [0u8; 64];
+    apply_zeroed(
+        number,
+        sector,
+        generation,
+        list,
+        items,
+        table,
+        rows,
+        edits,
+        shares,
+        unrefs,
+        releases,
+        adds,
+        &mut gained,
+        &mut lost,
+        &mut gone,
+    )
+}
+
+// With at most 1,024 rows.
+fn apply_to_some(
+    number: u64,
+    sector: u64,
+    generation: u64,
+    list: &mut [u8],
+    items: usize,
+    table: &mut [u64],
+    rows: usize,
+    edits: &[u8],
+    shares: &[u64],
+    unrefs: &[u64],
+    releases: &[u64],
+    adds: &[u64],
+) -> Applied
+    requires { ⌜ Ready number sector items rows (now list) (now table) (now edits) × (rows ≤ 1024) ⌝ }
+    ensures { λ r. ⌜ Met (apply sector number generation (length (now (list .entry)) / 70) (length (now (table .entry)) / 5) (itemsIn items (now (list .entry))) (rowsIn rows (now (table .entry))) (planLent (partsOf (now (edits .entry)) (now (shares .entry)) (now (unrefs .entry)) (now (releases .entry)) (now (adds .entry))))) r (now (list .entry)) (now (list .exit)) (now (table .entry)) (now (table .exit)) ⌝ }
+{
+    let mut gained = [0u64; 1024];
+    let mut lost = [0u64; 1024];
+    let mut gone = [0u8; 1024];
+    apply_zeroed(
+        number,
+        sector,
+        generation,
+        list,
+        items,
+        table,
+        rows,
+        edits,
+        shares,
+        unrefs,
+        releases,
+        adds,
+        &mut gained,
+        &mut lost,
+        &mut gone,
+    )
+}
+
+// With as many rows as there may be.
+fn apply_to_many(
     number: u64,
     sector: u64,
     generation: u64,
@@ -85,17 +215,7 @@ fn apply_ready(
     let mut gained = [0u64; 65536];
     let mut lost = [0u64; 65536];
     let mut gone = [0u8; 65536];
-    let stop = rows * 5;
-    let missing = counting::count_lines(
-        &table[..stop],
-        shares,
-        unrefs,
-        releases,
-        &mut gained,
-        &mut lost,
-        &mut gone,
-    );
-    apply_counted(
+    apply_zeroed(
         number,
         sector,
         generation,
@@ -104,11 +224,79 @@ fn apply_ready(
         table,
         rows,
         edits,
+        shares,
+        unrefs,
+        releases,
         adds,
-        &gained,
-        &lost,
-        &gone,
-        missing,
+        &mut gained,
+        &mut lost,
+        &mut gone,
+    )
+}
+
+// A plan applied, where what is lent is accepted.
+fn apply_ready(
+    number: u64,
+    sector: u64,
+    generation: u64,
+    list: &mut [u8],
+    items: usize,
+    table: &mut [u64],
+    rows: usize,
+    edits: &[u8],
+    shares: &[u64],
+    unrefs: &[u64],
+    releases: &[u64],
+    adds: &[u64],
+) -> Applied
+    requires { ⌜ Ready number sector items rows (now list) (now table) (now edits) ⌝ }
+    ensures { λ r. ⌜ Met (apply sector number generation (length (now (list .entry)) / 70) (length (now (table .entry)) / 5) (itemsIn items (now (list .entry))) (rowsIn rows (now (table .entry))) (planLent (partsOf (now (edits .entry)) (now (shares .entry)) (now (unrefs .entry)) (now (releases .entry)) (now (adds .entry))))) r (now (list .entry)) (now (list .exit)) (now (table .entry)) (now (table .exit)) ⌝ }
+{
+    if rows <= 64 {
+        return apply_to_few(
+            number,
+            sector,
+            generation,
+            list,
+            items,
+            table,
+            rows,
+            edits,
+            shares,
+            unrefs,
+            releases,
+            adds,
+        );
+    }
+    if rows <= 1024 {
+        return apply_to_some(
+            number,
+            sector,
+            generation,
+            list,
+            items,
+            table,
+            rows,
+            edits,
+            shares,
+            unrefs,
+            releases,
+            adds,
+        );
+    }
+    apply_to_many(
+        number,
+        sector,
+        generation,
+        list,
+        items,
+        table,
+        rows,
+        edits,
+        shares,
+        unrefs,
+        releases,
+        adds,
     )
 }
 

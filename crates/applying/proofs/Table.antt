@@ -23,7 +23,7 @@ abbrev pub rowsClear : Row → Row → Bool
 rowsClear x r = clear (x .start) (x .length) (r .start) (r .length)
 
 -- a sound row has a byte
-row-some : (r : Row) → rowSound r ≡ true → 0 < r .length
+pub row-some : (r : Row) → rowSound r ≡ true → 0 < r .length
 row-some r h =
     let a : Bool = not (eqb (r .start) 0) in
     let b : Bool = not (eqb (r .length) 0) in
@@ -68,7 +68,7 @@ insertRow-at x (r ∷ rs) (suc i) h k =
     let t : Row → Bool = λ r. leb (r .start) (x .start) in
     rw (le-ltb (x .start) (r .start) (leb-true (r .start) (x .start) (both-left (t r) (every t (take i rs)) h))) (ap (λ (l : List Row). r ∷ l) (insertRow-at x rs i (both-right (t r) (every t (take i rs)) h) k))
 
-every-insertRow : (p : Row → Bool) (x : Row) (rs : List Row) → p x ≡ true → every p rs ≡ true → every p (insertRow x rs) ≡ true
+pub every-insertRow : (p : Row → Bool) (x : Row) (rs : List Row) → p x ≡ true → every p rs ≡ true → every p (insertRow x rs) ≡ true
 unfolding insertRow every
 every-insertRow p x [] h k = both (p x) true h refl
 every-insertRow p x (r ∷ rs) h k = go (ltb (x .start) (r .start)) (every-insertRow p x rs h (both-right (p r) (every p rs) k))
