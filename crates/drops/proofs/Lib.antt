@@ -2,5 +2,4 @@ pub mod Refusals
 pub mod Tallies
 pub mod Rows
 pub mod Cuts
-pub mod Chains
 pub mod Links

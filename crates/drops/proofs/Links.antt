@@ -22,12 +22,14 @@ use Rattle.refs.proofs.Drops.{held-length}
 use Rattle.cut.specs.Refs.{Ref}
 use Rattle.lines.specs.Lines.{Laid}
 use Rattle.lines.proofs.Laws.{Going, going-first, going-done}
+use Rattle.chains.specs.Chains.{leader, Chain}
+use Rattle.chains.proofs.Walks.{lead-yes, lead-no, lead-nil, lead-none, chain-empty}
 use Rattle.drops.specs.declared.Cut.{Cut}
 use Rattle.drops.specs.declared.Span.{Span}
 use Rattle.drops.specs.Dropped.{taken, dropsIn}
 use Rattle.drops.specs.Raw.{rowLines}
-use Rattle.drops.specs.Chains.{leader, Chain, dropAt, wider, Blank, Linked}
-use Rattle.drops.proofs.Chains.{lead-yes, lead-no, lead-nil, held-here, row-nothing}
+use Rattle.drops.specs.Links.{dropAt, wider, Blank, Linked}
+use Rattle.drops.proofs.Rows.{row-chained}
 
 -- ---- which row a drop is of
 
@@ -208,15 +210,18 @@ module _ {B : Type 0} (g : Row → List B) (t : List ℕ) (n : ℕ) where
 
 module _ (c : Cut) (release : Bool) (t : List ℕ) (fs : List Fields) (bs heads nexts : List ℕ) (s : Span) (done : Linked c (rows t) (held fs bs) 0 heads nexts s) where
   no-lines : (k : ℕ) → k < length t / 5 → getD heads k 0 ≡ 0 → rowLines release (dropsIn c fs bs) (rowOf (drop (k * 5) t)) ≡ []
-  no-lines k h z = row-nothing c fs bs release (rowOf (drop (k * 5) t)) (sym (chain-of c t (held fs bs) heads nexts s done k (rowOf (drop (k * 5) t)) (getD heads k 0) h refl refl .starts) ∙ z)
+  no-lines k h z =
+      let row = rowOf (drop (k * 5) t) in
+      let first = chain-of c t (held fs bs) heads nexts s done k row (getD heads k 0) h refl refl .starts in
+      row-chained c release fs bs row ∙ chain-empty release (row .references) _ (lead-none (dropAt c (row .start)) (held fs bs) 0 (sym first ∙ z))
 
   -- a loop over the span's rows, as it starts and as it ends
-  pub span-first : (f : Ref → List ℕ) (v n : ℕ) (out : List ℕ) → Going f v n (flatMap (rowLines release (dropsIn c fs bs)) (rows t)) out n (flatMap (rowLines release (dropsIn c fs bs)) (rest rowOf 5 t (length t / 5) (s .from))) out
-  span-first f v n out =
+  pub span-first : (f : Ref → List ℕ) (v n : ℕ) (out : List ℕ) (k : ℕ) → s .from ≡ k → Going f v n (flatMap (rowLines release (dropsIn c fs bs)) (rows t)) out n (flatMap (rowLines release (dropsIn c fs bs)) (rest rowOf 5 t (length t / 5) k)) out
+  span-first f v n out k q =
       let g = rowLines release (dropsIn c fs bs) in
       let e : flatMap g (rows t) ≡ flatMap g (rest rowOf 5 t (length t / 5) (s .from)) =
       ap (flatMap g) (sym (rows-rest t)) ∙ rows-skip g t (length t / 5) (s .from) (omega (arith, done .low, rows-length t)) (λ j m. no-lines j (omega (arith, done .low, rows-length t)) (done .before j m)) in
-      rw (← e) (going-first f v n (flatMap g (rows t)) out)
+      rw (← q, ← e) (going-first f v n (flatMap g (rows t)) out)
 
   pub span-done : (f : Ref → List ℕ) (v n₀ : ℕ) (all : List Ref) (out₀ : List ℕ) (n : ℕ) (out : List ℕ) (k : ℕ) → s .to ≤ k → Going f v n₀ all out₀ n (flatMap (rowLines release (dropsIn c fs bs)) (rest rowOf 5 t (length t / 5) k)) out → Laid f v n₀ all out₀ n out
   span-done f v n₀ all out₀ n out k h going =

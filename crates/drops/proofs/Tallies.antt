@@ -4,7 +4,7 @@ use mathlib.Core.Bool.{Bool, true, false, cond, _&&_, _||_, not, and-true, and-a
 use mathlib.Core.List.{List, _∷_}
 use Prim.Native.Nat.{ℕ, _+_, _*_, _<_, _≤_}
 use native.Mathlib.Omega.{arith}
-use native.Mathlib.Nat.{add-zero, zero-add}
+use native.Mathlib.Nat.{add-zero}
 use lib.Dec.{eqb}
 use lib.ListN.{length, getD, drop}
 use Rattle.records.specs.Select.{keep}
@@ -14,22 +14,13 @@ use Rattle.item.specs.Items.{Fields, decode}
 use Rattle.table.specs.declared.Row.{Row}
 use Rattle.refs.specs.Drops.{Held, held, dropsOf, released}
 use Rattle.refs.proofs.Helds.{heldRest, held-cons, held-nil}
+use Rattle.chains.specs.Chains.{unshared}
+use Rattle.chains.proofs.Walks.{Tally}
 use Rattle.drops.specs.declared.Cut.{Cut}
 use Rattle.drops.specs.Dropped.{dropped, dropsIn}
 use Rattle.drops.specs.Raw.{dropOf}
 
 -- ---- how many pass, and whether their leaves are not shared
-
-abbrev pub unshared : Held → Bool
-unshared d = eqb (d .shared) 0
-
--- what was counted and tested so far, with what is left, is the whole
-pub record Tally (p : Held → Bool) (all left : List Held) (n : ℕ) (b : Bool) : Type 0 where
-  pub number : n + length (keep p left) ≡ length (keep p all)
-  pub free : (b && every unshared (keep p left)) ≡ every unshared (keep p all)
-
-pub tally-first : (p : Held → Bool) (all left : List Held) → left ≡ all → Tally p all left 0 true
-tally-first p all left e = record { number = rw (e, zero-add) refl; free = rw e refl }
 
 module _ (p : Held → Bool) (all : List Held) where
   tally-cons : (d : Held) (l : List Held) (n : ℕ) (b : Bool) → Tally p all (d ∷ l) n b → Tally p all l (n + cond (p d) 1 0) (b && (not (p d) || unshared d))

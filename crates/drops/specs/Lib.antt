@@ -1,3 +1,3 @@
 pub mod Dropped
 pub mod Raw
-pub mod Chains
+pub mod Links

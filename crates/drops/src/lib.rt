@@ -8,18 +8,18 @@ use table::Found;
 use table::Row;
 ghost use mathlib.Core.Path.{_≡_};
 ghost use mathlib.Core.Bool.{true, cond, not};
-ghost use mathlib.Core.List.{List, [], _∷_, flatMap};
+ghost use mathlib.Core.List.{List, flatMap};
 ghost use Prim.Native.Nat.{ℕ, _+_, _/_, _≤_, _<_, _^_, min, max};
 ghost use lib.ListN.{length};
 ghost use Rattle.item.specs.Items.{fields, items};
 ghost use Rattle.table.specs.Rows.{rows, tableKept};
 ghost use Rattle.plan.specs.Outputs.{refNumbers};
 ghost use Rattle.lines.specs.Lines.{Laid};
-ghost use Rattle.refs.specs.Drops.{held, windowSound, dropRefusal, earlier, dropsRefusal, lines, released, releases, unrefs};
-ghost use Rattle.cut.specs.Refs.{refOf};
+ghost use Rattle.refs.specs.Drops.{held, windowSound, dropRefusal, earlier, dropsRefusal, released, releases, unrefs};
+ghost use Rattle.drops.specs.declared.Cut.{Cut};
 ghost use Rattle.drops.specs.Dropped.{taken, dropsIn};
 ghost use Rattle.drops.specs.Raw.{due, itemDue, dropOf, lineOf, rowLines};
-ghost use Rattle.drops.specs.Chains.{wider, dropAt, Chain, Blank, Linked};
+ghost use Rattle.drops.specs.Links.{wider, Blank, Linked};
 
 // The range that is cut, and the starts of two extents that are written in place (0: none), whose items are compared
 // instead of dropped.
@@ -176,13 +176,6 @@ fn put_lines(c: Cut, start: u64, list: &[u8], out: &mut [u64], n: usize) -> usiz
     at
 }
 
-// Whether a row's drops give lines of the kind that is asked for.
-fn is_asked(release: bool, released: bool) -> bool
-    ensures { λ r. ⌜ r ≡ cond release released (not released) ⌝ }
-{
-    if release { released } else { !released }
-}
-
 // The lines of one row: of its drops, if they are releases or unrefs as is asked.
 fn put_row(
     c: Cut,
@@ -197,7 +190,7 @@ fn put_row(
     requires { ⌜ n + length (rowLines release (dropsIn c (items (now list)) (now shared)) row) < 2 ^ 64 ⌝ }
     ensures { λ r. ⌜ Laid refNumbers 2 n (rowLines release (dropsIn c (items (now (list .entry))) (now (shared .entry))) row) (now (out .entry)) r (now (out .exit)) ⌝ }
 {
-    if is_asked(release, is_released(c, list, shared, row)) {
+    if chains::is_asked(release, is_released(c, list, shared, row)) {
         return put_lines(c, row.start, list, out, n);
     }
     n
@@ -257,12 +250,6 @@ fn widened(s: Span, k: usize) -> Span
     }
 }
 
-fn wide(x: u32) -> usize
-    ensures { λ r. ⌜ r ≡ x ⌝ }
-{
-    x as usize
-}
-
 // Item i put before the chain of its row, if it is a drop and has one.
 fn link_item(
     c: Cut,
@@ -317,101 +304,8 @@ fn link(
     span
 }
 
-// Whether an extent is released, by the chain of its drops. `at` is behind the last that was seen.
-fn is_chain_released(
-    c: Cut,
-    list: &[u8],
-    shared: &[u8],
-    nexts: &[u32],
-    head: usize,
-    row: Row,
-) -> bool
-    requires { ⌜ length (now shared) ≡ length (items (now list)) ⌝ }
-    requires { ⌜ Chain (dropAt c (row .start)) (held (items (now list)) (now shared)) (now nexts) head ⌝ }
-    ensures { λ r. ⌜ r ≡ released (dropsIn c (items (now (list .entry))) (now (shared .entry))) row ⌝ }
-{
-    let mut at = 0;
-    let mut h = head;
-    let mut many: u64 = 0;
-    let mut free = true;
-    while h != 0 {
-        many += 1;
-        free = both(free, shared[h - 1] == 0);
-        at = h;
-        h = wide(nexts[h - 1]);
-    }
-    both(row.references == many, free)
-}
-
-// The line of a drop.
-fn put_drop(item: Item, out: &mut [u64], n: usize) -> usize
-    requires { ⌜ n + 1 < 2 ^ 64 ⌝ }
-    ensures { λ r. ⌜ Laid refNumbers 2 n (refOf (fields item) ∷ []) (now (out .entry)) r (now (out .exit)) ⌝ }
-{
-    let start = item.extent_start();
-    let reference = item.reference();
-    lines::put_ref(out, n, start, reference)
-}
-
-// A line for each drop of a chain.
-fn put_chain(
-    c: Cut,
-    start: u64,
-    list: &[u8],
-    shared: &[u8],
-    nexts: &[u32],
-    head: usize,
-    out: &mut [u64],
-    n: usize,
-) -> usize
-    requires { ⌜ length (now shared) ≡ length (items (now list)) ⌝ }
-    requires { ⌜ Chain (dropAt c start) (held (items (now list)) (now shared)) (now nexts) head ⌝ }
-    requires { ⌜ n + length (lines start (dropsIn c (items (now list)) (now shared))) < 2 ^ 64 ⌝ }
-    ensures { λ r. ⌜ Laid refNumbers 2 n (lines start (dropsIn c (items (now (list .entry))) (now (shared .entry)))) (now (out .entry)) r (now (out .exit)) ⌝ }
-{
-    let mut at = 0;
-    let mut h = head;
-    let mut m = n;
-    while h != 0 {
-        m = put_drop(item::item_at(list, h - 1), out, m);
-        at = h;
-        h = wide(nexts[h - 1]);
-    }
-    m
-}
-
-// The lines of one row, by the chain of its drops.
-fn put_chained(
-    c: Cut,
-    release: bool,
-    list: &[u8],
-    shared: &[u8],
-    nexts: &[u32],
-    head: usize,
-    row: Row,
-    out: &mut [u64],
-    n: usize,
-) -> usize
-    requires { ⌜ length (now shared) ≡ length (items (now list)) ⌝ }
-    requires { ⌜ Chain (dropAt c (row .start)) (held (items (now list)) (now shared)) (now nexts) head ⌝ }
-    requires { ⌜ n + length (rowLines release (dropsIn c (items (now list)) (now shared)) row) < 2 ^ 64 ⌝ }
-    ensures { λ r. ⌜ Laid refNumbers 2 n (rowLines release (dropsIn c (items (now (list .entry))) (now (shared .entry))) row) (now (out .entry)) r (now (out .exit)) ⌝ }
-{
-    if head == 0 {
-        return n;
-    }
-    if is_asked(
-        release,
-        is_chain_released(c, list, shared, nexts, head, row),
-    ) {
-        return put_chain(c, row.start, list, shared, nexts, head, out, n);
-    }
-    n
-}
-
-// The lines of all rows of a span, outside of which no row has a drop.
+// The lines of all rows of a span, by the chains of their drops. No row outside of it has a drop.
 fn put_span(
-    c: Cut,
     release: bool,
     list: &[u8],
     shared: &[u8],
@@ -425,25 +319,16 @@ fn put_span(
     requires { ⌜ tableKept (rows (now table)) ≡ true ⌝ }
     requires { ⌜ length (now shared) ≡ length (items (now list)) ⌝ }
     requires { ⌜ n + length (items (now list)) < 2 ^ 64 ⌝ }
-    requires { ⌜ Linked c (rows (now table)) (held (items (now list)) (now shared)) 0 (now heads) (now nexts) span ⌝ }
-    ensures { λ r. ⌜ Laid refNumbers 2 n (cond release (releases (rows (now (table .entry))) (dropsIn c (items (now (list .entry))) (now (shared .entry)))) (unrefs (rows (now (table .entry))) (dropsIn c (items (now (list .entry))) (now (shared .entry))))) (now (out .entry)) r (now (out .exit)) ⌝ }
+    requires { ⌜ ((c : Cut) × Linked c (rows (now table)) (held (items (now list)) (now shared)) 0 (now heads) (now nexts) span) ⌝ }
+    ensures { λ r. ⌜ ((c : Cut) → Linked c (rows (now (table .entry))) (held (items (now (list .entry))) (now (shared .entry))) 0 (now (heads .entry)) (now (nexts .entry)) span → Laid refNumbers 2 n (cond release (releases (rows (now (table .entry))) (dropsIn c (items (now (list .entry))) (now (shared .entry)))) (unrefs (rows (now (table .entry))) (dropsIn c (items (now (list .entry))) (now (shared .entry))))) (now (out .entry)) r (now (out .exit))) ⌝ }
 {
     let mut at = n;
     let from = span.from;
     let to = span.to;
     for k in from..to {
         let row = table::row_at(table, k);
-        at = put_chained(
-            c,
-            release,
-            list,
-            shared,
-            nexts,
-            wide(heads[k]),
-            row,
-            out,
-            at,
-        );
+        let head = chains::wide(heads[k]);
+        at = chains::put_chain(release, row.references, list, shared, nexts, head, out, at);
     }
     at
 }
@@ -467,7 +352,7 @@ fn put_linked(
     ensures { λ r. ⌜ Laid refNumbers 2 n (cond release (releases (rows (now (table .entry))) (dropsIn c (items (now (list .entry))) (now (shared .entry)))) (unrefs (rows (now (table .entry))) (dropsIn c (items (now (list .entry))) (now (shared .entry))))) (now (out .entry)) r (now (out .exit)) ⌝ }
 {
     let span = link(c, list, shared, table, heads, nexts);
-    put_span(c, release, list, shared, table, heads, nexts, span, out, n)
+    put_span(release, list, shared, table, heads, nexts, span, out, n)
 }
 
 // The lines of all rows, with arrays of a size that suffices: for short lists and tables,

@@ -1,5 +1,6 @@
 use Rattle.refs.proofs.Helds.{heldRest, held-all}
-use Rattle.drops.proofs.Tallies.{Tally, tally-first, tally-turn, tally-released, one-most, ofExtent}
+use Rattle.chains.proofs.Walks.{Tally, tally-first}
+use Rattle.drops.proofs.Tallies.{tally-turn, tally-released, one-most, ofExtent}
 use Rattle.refs.specs.Drops.{held}
 use Rattle.item.proofs.Laws.{item-decode, items-length}
 use Rattle.item.specs.Items.{items, fields}

@@ -1,5 +1,5 @@
 use Rattle.drops.proofs.Links.{linked-first, linked-same}
-use Rattle.drops.specs.Chains.{Linked}
+use Rattle.drops.specs.Links.{Linked}
 use Rattle.refs.specs.Drops.{held}
 use Rattle.refs.proofs.Drops.{held-length}
 use Rattle.item.specs.Items.{items}

@@ -1,5 +1,5 @@
 use Rattle.drops.proofs.Links.{found-in, of-none, linked-kept, linked-skip, linked-put}
-use Rattle.drops.proofs.Chains.{held-here}
+use Rattle.chains.proofs.Walks.{held-here}
 use Rattle.refs.specs.Drops.{held}
 use Rattle.refs.proofs.Drops.{held-length}
 use Rattle.item.specs.Items.{items, fields}

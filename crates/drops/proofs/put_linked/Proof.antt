@@ -8,7 +8,7 @@ link-requires c κs = search needs
 put-span-requires : tie.Need-put-span-requires
 put-span-requires c κs =
     let a = c .before .before .before .before .before .before .before .before .before .before .before .before .before .before .before .before in
-    (a .pre .0, (a .pre .1 .0, (a .pre .1 .1 .0, c .before .before .before .before .before .before .before .link .ensures)))
+    (a .pre .0, (a .pre .1 .0, (a .pre .1 .1 .0, (a .args .c, c .before .before .before .before .before .before .before .link .ensures))))
 
 same-length : tie.Need-same-length
 same-length c = search needs
@@ -20,7 +20,9 @@ same-length-3 : tie.Need-same-length-3
 same-length-3 c = search needs
 
 returns : tie.Need-returns
-returns c = search needs
+returns c =
+    let a = c .before .before .before .before .before .before .before .before .before .before .before .before .before .before .before .before .before .before .before in
+    c .before .before .put-span .ensures (a .args .c) (c .before .before .before .before .before .before .before .before .before .before .link .ensures)
 
 pub put-linked-spec : {M : Type 1} → statement M
 put-linked-spec =

@@ -1,29 +1,23 @@
--- Laws of chains: what a walk along one takes. Assumes nothing.
+-- Laws of chains: what a walk along one takes, counts and lays. Assumes nothing.
 use mathlib.Core.Path.{_≡_, refl, ap, ap₂, _∙_, sym}
-use mathlib.Core.Bool.{Bool, true, false, cond, _&&_, and-true, and-assoc}
+use mathlib.Core.Bool.{Bool, true, false, cond, _&&_, not, and-true, and-assoc}
 use mathlib.Core.List.{List, [], _∷_, _++_, map}
-use Prim.Native.Nat.{ℕ, zero, suc, _+_, _-_, _*_, _/_, _<_, _≤_, _^_}
+use Prim.Native.Nat.{ℕ, zero, suc, _+_, _-_, _*_, _/_, _<_, _≤_}
 use native.Mathlib.Omega.{arith}
-use native.Mathlib.Nat.{add-zero, zero-add}
-use native.Mathlib.Numerals.{add-one}
+use native.Mathlib.Nat.{zero-add}
 use lib.Dec.{eqb}
 use lib.ListN.{length, getD, drop, length-map, length-drop}
-use lib.Seq.{drop-cons, drop-drop, getD-drop}
+use lib.Seq.{drop-drop, getD-drop}
 use Rattle.records.specs.Select.{keep}
 use Rattle.records.specs.Stages.{every}
 use Rattle.item.specs.Items.{Fields, items, decode}
 use Rattle.item.proofs.Laws.{items-length, items-at}
-use Rattle.table.specs.declared.Row.{Row}
-use Rattle.cut.specs.Refs.{Ref, refOf}
-use Rattle.refs.specs.Drops.{Held, held, lines, released}
+use Rattle.cut.specs.Refs.{Ref}
+use Rattle.refs.specs.Drops.{Held, held}
 use Rattle.refs.proofs.Drops.{held-length}
 use Rattle.lines.specs.Lines.{Laid}
-use Rattle.lines.proofs.Laws.{Going, going-first, going-turn, going-done}
-use Rattle.drops.specs.declared.Cut.{Cut}
-use Rattle.drops.specs.Dropped.{dropsIn}
-use Rattle.drops.specs.Raw.{rowLines}
-use Rattle.drops.specs.Chains.{leader, Chain, dropAt}
-use Rattle.drops.proofs.Tallies.{Tally, unshared, tally-first, drops-of}
+use Rattle.lines.proofs.Laws.{Going, going-turn, going-done}
+use Rattle.chains.specs.Chains.{leader, Chain, unshared, freed, lineIn, chainLines}
 
 module _ {A : Type 0} (p : A → Bool) where
   -- ---- the first that passes
@@ -49,7 +43,7 @@ module _ {A : Type 0} (p : A → Bool) where
   keep-no x xs h = rw h refl
 
   -- none passes
-  lead-none : (xs : List A) (i : ℕ) → leader p i xs ≡ 0 → keep p xs ≡ []
+  pub lead-none : (xs : List A) (i : ℕ) → leader p i xs ≡ 0 → keep p xs ≡ []
   unfolding keep
   lead-none [] i h = refl
   lead-none (x ∷ xs) i h = go (p x) refl (lead-none xs (i + 1))
@@ -120,6 +114,14 @@ module _ {A : Type 0} (p : A → Bool) where
 
 -- ---- what a walk counts and tests
 
+-- what was counted and tested so far, with what is left, is the whole
+pub record Tally (p : Held → Bool) (all left : List Held) (n : ℕ) (b : Bool) : Type 0 where
+  pub number : n + length (keep p left) ≡ length (keep p all)
+  pub free : (b && every unshared (keep p left)) ≡ every unshared (keep p all)
+
+pub tally-first : (p : Held → Bool) (all left : List Held) → left ≡ all → Tally p all left 0 true
+tally-first p all left e = record { number = rw (e, zero-add) refl; free = rw e refl }
+
 module _ (p : Held → Bool) (all left : List Held) where
   pub tally-take : (rest : List Held) (d : Held) (n : ℕ) (b b′ : Bool) → keep p left ≡ d ∷ keep p rest → b′ ≡ (b && unshared d) → Tally p all left n b → Tally p all rest (n + 1) b′
   unfolding every
@@ -132,6 +134,12 @@ module _ (p : Held → Bool) (all left : List Held) where
   tally-end : (n : ℕ) (b : Bool) → keep p left ≡ [] → Tally p all left n b → (n ≡ length (keep p all)) × (b ≡ every unshared (keep p all))
   unfolding every
   tally-end n b e t = (omega (arith, t .number, ap length e), sym (and-true b) ∙ ap (λ (l : List Held). b && every unshared l) (sym e) ∙ t .free)
+
+-- the answer, from what was counted and tested
+pub tally-freed : (p : Held → Bool) (all left : List Held) (references n : ℕ) (b : Bool) → keep p left ≡ [] → Tally p all left n b → (eqb references n && b) ≡ freed references (keep p all)
+tally-freed p all left references n b e t =
+    let z = tally-end p all left n b e t in
+    rw (← (z .0), ← (z .1)) refl
 
 -- the item at index i, with its byte
 held-at : (fs : List Fields) (bs : List ℕ) (i : ℕ) (e : Held) → length bs ≡ length fs → i < length fs → getD (held fs bs) i e ≡ record { item = getD fs i (e .item); shared = getD bs i 0 }
@@ -148,44 +156,12 @@ held-here list shared i e f l h q = held-at (items list) shared i e l (omega (ar
 abbrev pub noHeld : Held
 noHeld = record { item = decode []; shared = 0 }
 
-abbrev pub lineIn : Held → Ref
-lineIn d = refOf (d .item)
-
-module _ (c : Cut) (fs : List Fields) (bs : List ℕ) where
-  -- the answer, from what was counted and tested
-  pub chain-released : (row : Row) (left : List Held) (n : ℕ) (b : Bool) → keep (dropAt c (row .start)) left ≡ [] → Tally (dropAt c (row .start)) (held fs bs) left n b → (eqb (row .references) n && b) ≡ released (dropsIn c fs bs) row
-  chain-released row left n b e t =
-      let z = tally-end (dropAt c (row .start)) (held fs bs) left n b e t in
-      rw (drops-of c (row .start) fs bs, ← (z .0), ← (z .1)) refl
-
-  -- ---- lines
-
-  pub lines-kept : (start : ℕ) → lines start (dropsIn c fs bs) ≡ map lineIn (keep (dropAt c start) (held fs bs))
-  lines-kept start = ap (map lineIn) (drops-of c start fs bs)
-
-  -- no drop, no line
-  pub row-nothing : (release : Bool) (row : Row) → leader (dropAt c (row .start)) 0 (held fs bs) ≡ 0 → rowLines release (dropsIn c fs bs) row ≡ []
-  row-nothing release row h =
-      let e : lines (row .start) (dropsIn c fs bs) ≡ [] = lines-kept (row .start) ∙ ap (map lineIn) (lead-none (dropAt c (row .start)) (held fs bs) 0 h) in
-      rw e (go release (released (dropsIn c fs bs) row))
-    where
-      none : List Ref
-      none = []
-
-      go : (r u : Bool) → cond r (cond u none none) (cond u none none) ≡ none
-      go true true = refl
-      go true false = refl
-      go false true = refl
-      go false false = refl
-
--- a loop that puts the lines of a chain: how it starts and ends
-pub chain-first : (c : Cut) (fs : List Fields) (bs : List ℕ) (start : ℕ) (f : Ref → List ℕ) (n : ℕ) (out : List ℕ) → Going f 2 n (lines start (dropsIn c fs bs)) out n (map lineIn (keep (dropAt c start) (drop 0 (held fs bs)))) out
-chain-first c fs bs start f n out = rw (lines-kept c fs bs start) (going-first f 2 n (map lineIn (keep (dropAt c start) (held fs bs))) out)
+-- ---- a loop that puts the lines of a chain: its end, and its turn
 
 pub chain-done : (f : Ref → List ℕ) (n₀ : ℕ) (all : List Ref) (out₀ : List ℕ) (n : ℕ) (out : List ℕ) (left : List Held) → left ≡ [] → Going f 2 n₀ all out₀ n (map lineIn left) out → Laid f 2 n₀ all out₀ n out
 chain-done f n₀ all out₀ n out left e going = going-done f 2 n₀ all out₀ n out (rw e at going)
 
--- the turn of a loop that puts the lines of a chain: d is the next of it, and its lines before are laid
+-- d is the next of the chain, and the lines before it are laid
 module _ (f : Ref → List ℕ) (n₀ : ℕ) (all : List Ref) (out₀ : List ℕ) (n : ℕ) (out : List ℕ) (left rest : List Held) (d : Held) (e : left ≡ d ∷ rest) (going : Going f 2 n₀ all out₀ n (map lineIn left) out) where
   pub chain-room : n + 1 ≤ n₀ + length all
   chain-room = omega (arith, going .lines, length-map left lineIn, ap length e)
@@ -193,26 +169,45 @@ module _ (f : Ref → List ℕ) (n₀ : ℕ) (all : List Ref) (out₀ : List ℕ
   pub chain-turn : (m : ℕ) (out′ : List ℕ) → Laid f 2 n (lineIn d ∷ []) out m out′ → Going f 2 n₀ all out₀ m (map lineIn rest) out′
   chain-turn m out′ l = going-turn f 2 n₀ all out₀ n (lineIn d ∷ []) (map lineIn rest) out m out′ (rw e at going) l
 
--- ---- walks along the chain of an extent's drops
+-- ---- the lines that are asked for
+
+module _ (release : Bool) (references : ℕ) (ds : List Held) (u t : Bool) (e : u ≡ freed references ds) (h : t ≡ cond release u (not u)) where
+  pub chain-some : t ≡ true → chainLines release references ds ≡ map lineIn ds
+  chain-some z = rw (← e, ← h, z) refl
+
+  pub chain-none : t ≡ false → chainLines release references ds ≡ []
+  chain-none z = rw (← e, ← h, z) refl
+
+pub chain-empty : (release : Bool) (references : ℕ) (ds : List Held) → ds ≡ [] → chainLines release references ds ≡ []
+chain-empty release references ds e = rw e (go (cond release (freed references []) (not (freed references []))))
+  where
+    none : List Ref
+    none = []
+
+    go : (b : Bool) → cond b none none ≡ none
+    go true = refl
+    go false = refl
+
+-- ---- walks along a chain
 
 -- `at` is behind the last drop that was taken, h the number of the next
 pub record Walk (p : Held → Bool) (ds : List Held) (at h : ℕ) : Type 0 where
   pub low : at ≤ length ds
   pub here : h ≡ leader p at (drop at ds)
 
-module _ (c : Cut) (start : ℕ) (list shared nexts : List ℕ) (head : ℕ) (l : length shared ≡ length (items list)) (chain : Chain (dropAt c start) (held (items list) shared) nexts head) where
-  pub walk-start : Walk (dropAt c start) (held (items list) shared) 0 head
+module _ (p : Held → Bool) (list shared nexts : List ℕ) (head : ℕ) (l : length shared ≡ length (items list)) (chain : Chain p (held (items list) shared) nexts head) where
+  pub walk-start : Walk p (held (items list) shared) 0 head
   walk-start = record { low = omega arith; here = chain .starts }
 
-  pub walk-stop : (at h : ℕ) → Walk (dropAt c start) (held (items list) shared) at h → h ≡ 0 → keep (dropAt c start) (drop at (held (items list) shared)) ≡ []
-  walk-stop at h w z = walk-end (dropAt c start) (held (items list) shared) nexts head chain at h (w .here) z
+  pub walk-stop : (at h : ℕ) → Walk p (held (items list) shared) at h → h ≡ 0 → keep p (drop at (held (items list) shared)) ≡ []
+  walk-stop at h w z = walk-end p (held (items list) shared) nexts head chain at h (w .here) z
 
-  module _ (at h : ℕ) (w : Walk (dropAt c start) (held (items list) shared) at h) (z : h ≡ 0 → ⊥) where
+  module _ (at h : ℕ) (w : Walk p (held (items list) shared) at h) (z : h ≡ 0 → ⊥) where
     pub walk-moves : at < h
-    walk-moves = walk-up (dropAt c start) (held (items list) shared) nexts head chain at h (w .here) z (w .low) noHeld
+    walk-moves = walk-up p (held (items list) shared) nexts head chain at h (w .here) z (w .low) noHeld
 
     inside : h ≤ length (held (items list) shared)
-    inside = walk-in (dropAt c start) (held (items list) shared) nexts head chain at h (w .here) z (w .low) noHeld
+    inside = walk-in p (held (items list) shared) nexts head chain at h (w .here) z (w .low) noHeld
 
     pub walk-bytes : h ≤ length shared
     walk-bytes = omega (arith, inside, held-length (items list) shared l)
@@ -223,20 +218,20 @@ module _ (c : Cut) (start : ℕ) (list shared nexts : List ℕ) (head : ℕ) (l 
     pub walk-nexts : h ≤ length nexts
     walk-nexts = omega (arith, inside, chain .room)
 
-    pub walk-goes : (x : ℕ) → x ≡ getD nexts (h - 1) 0 → Walk (dropAt c start) (held (items list) shared) h x
-    walk-goes x e = record { low = inside; here = e ∙ walk-next (dropAt c start) (held (items list) shared) nexts head chain at h (w .here) z (w .low) noHeld }
+    pub walk-goes : (x : ℕ) → x ≡ getD nexts (h - 1) 0 → Walk p (held (items list) shared) h x
+    walk-goes x e = record { low = inside; here = e ∙ walk-next p (held (items list) shared) nexts head chain at h (w .here) z (w .low) noHeld }
 
     -- f is the next drop's item
-    pub walk-takes : (f : Fields) → f ≡ decode (drop ((h - 1) * 70) list) → keep (dropAt c start) (drop at (held (items list) shared)) ≡ record { item = f; shared = getD shared (h - 1) 0 } ∷ keep (dropAt c start) (drop h (held (items list) shared))
+    pub walk-takes : (f : Fields) → f ≡ decode (drop ((h - 1) * 70) list) → keep p (drop at (held (items list) shared)) ≡ record { item = f; shared = getD shared (h - 1) 0 } ∷ keep p (drop h (held (items list) shared))
     walk-takes f e =
         let i : h - 1 < length list / 70 = omega (arith, walk-items) in
-        walk-take (dropAt c start) (held (items list) shared) nexts head chain at h (w .here) z (w .low) noHeld
-        ∙ ap (λ (d : Held). d ∷ keep (dropAt c start) (drop h (held (items list) shared))) (held-here list shared (h - 1) noHeld f l i e)
+        walk-take p (held (items list) shared) nexts head chain at h (w .here) z (w .low) noHeld
+        ∙ ap (λ (d : Held). d ∷ keep p (drop h (held (items list) shared))) (held-here list shared (h - 1) noHeld f l i e)
 
     pub walk-tally :
         (n : ℕ) (b b′ : Bool) → b′ ≡ (b && eqb (getD shared (h - 1) 0) 0)
-        → Tally (dropAt c start) (held (items list) shared) (drop at (held (items list) shared)) n b
-        → Tally (dropAt c start) (held (items list) shared) (drop h (held (items list) shared)) (n + 1) b′
+        → Tally p (held (items list) shared) (drop at (held (items list) shared)) n b
+        → Tally p (held (items list) shared) (drop h (held (items list) shared)) (n + 1) b′
     walk-tally n b b′ q t =
         let f = decode (drop ((h - 1) * 70) list) in
-        tally-take (dropAt c start) (held (items list) shared) (drop at (held (items list) shared)) (drop h (held (items list) shared)) (record { item = f; shared = getD shared (h - 1) 0 }) n b b′ (walk-takes f refl) q t
+        tally-take p (held (items list) shared) (drop at (held (items list) shared)) (drop h (held (items list) shared)) (record { item = f; shared = getD shared (h - 1) 0 }) n b b′ (walk-takes f refl) q t

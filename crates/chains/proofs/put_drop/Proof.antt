@@ -5,8 +5,8 @@ use mathlib.Core.List.{[], _∷_}
 use mathlib.Core.Path.{ap₂, sym}
 use Prim.Native.Nat.{ℕ}
 use borrow.Author.Needs.{needs}
-use Rattle.drops.proofs.put_drop.Statement.{statement}
-use Rattle.drops.proofs.put_drop.Tie as tie
+use Rattle.chains.proofs.put_drop.Statement.{statement}
+use Rattle.chains.proofs.put_drop.Tie as tie
 
 extent-start-requires : tie.Need-extent-start-requires
 extent-start-requires c κs = search needs

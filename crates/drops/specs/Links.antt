@@ -1,26 +1,15 @@
--- Drops chained by row, through arrays of numbers: a number is an index and one more, and 0 is none.
-use mathlib.Core.Bool.{Bool, true, cond}
-use mathlib.Core.List.{List, [], _∷_}
+-- Drops chained by row, through arrays of numbers (`chains`).
+use mathlib.Core.Bool.{Bool, true}
+use mathlib.Core.List.{List}
 use mathlib.Core.Path.{_≡_}
 use Prim.Native.Nat.{ℕ, _+_, _≤_, _<_, min, max}
 use lib.ListN.{length, getD, drop}
 use Rattle.table.specs.declared.Row.{Row}
 use Rattle.refs.specs.Drops.{Held}
+use Rattle.chains.specs.Chains.{leader}
 use Rattle.drops.specs.declared.Cut.{Cut}
 use Rattle.drops.specs.declared.Span.{Span}
 use Rattle.drops.specs.Raw.{dropOf}
-
-module _ {A : Type 0} (p : A → Bool) where
-  -- of those from index i on, the number of the first that passes
-  unfoldable pub leader : ℕ → List A → ℕ
-  leader i [] = 0
-  leader i (x ∷ xs) = cond (p x) (i + 1) (leader (i + 1) xs)
-
-  -- the chain of those that pass: its head, and at each of them the number of the next
-  pub record Chain (xs : List A) (nexts : List ℕ) (head : ℕ) : Type 0 where
-    pub room : length xs ≤ length nexts
-    pub starts : head ≡ leader 0 xs
-    pub goes : (j : ℕ) (e : A) → j < length xs → p (getD xs j e) ≡ true → getD nexts j 0 ≡ leader (j + 1) (drop (j + 1) xs)
 
 -- a drop of the extent at `start`
 abbrev pub dropAt : Cut → ℕ → Held → Bool
