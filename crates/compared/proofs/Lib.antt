@@ -4,4 +4,4 @@ pub mod Nearest
 pub mod Walk
 pub mod Turns
 pub mod Laws
-pub mod Tiers
+pub mod Ways

@@ -1,2 +1,3 @@
 pub mod Minus
 pub mod Turns
+pub mod Tiers

@@ -119,7 +119,7 @@ fn put_minus(xs: &[u64], ys: &[u64], out: &mut [u64], n: usize) -> usize
 
 // A line for each reference to two extents that the items of x have more often than those of y, in order. The buffers are
 // lent, two numbers for each item; what is left in them means nothing.
-pub fn put_difference(
+fn put_difference(
     x: &[u8],
     y: &[u8],
     one: u64,
@@ -138,4 +138,66 @@ pub fn put_difference(
     let end = k * 2;
     let stop = m * 2;
     put_minus(&xs[..end], &ys[..stop], out, n)
+}
+
+// The same for at most 32 records of x and of y. The buffers are no longer than they need be, as they are zeroed.
+fn put_32(x: &[u8], y: &[u8], one: u64, two: u64, out: &mut [u64], n: usize) -> usize
+    requires { ⌜ (n + length (items (now x)) < 2 ^ 64) × (length (items (now x)) ≤ 32) × (length (items (now y)) ≤ 32) ⌝ }
+    ensures { λ r. ⌜ Laid refNumbers 2 n (minus (refsAmong (one ∷ two ∷ []) (items (now (x .entry)))) (refsAmong (one ∷ two ∷ []) (items (now (y .entry))))) (now (out .entry)) r (now (out .exit)) ⌝ }
+{
+    let mut xs = [0u64; 64];
+    let mut ys = [0u64; 64];
+    let mut spare = [0u64; 64];
+    put_difference(x, y, one, two, &mut xs, &mut ys, &mut spare, out, n)
+}
+
+// The same for at most 1,024 records of x.
+fn put_1024(x: &[u8], y: &[u8], one: u64, two: u64, out: &mut [u64], n: usize) -> usize
+    requires { ⌜ (n + length (items (now x)) < 2 ^ 64) × (length (items (now x)) ≤ 1024) × (length (items (now y)) ≤ 32) ⌝ }
+    ensures { λ r. ⌜ Laid refNumbers 2 n (minus (refsAmong (one ∷ two ∷ []) (items (now (x .entry)))) (refsAmong (one ∷ two ∷ []) (items (now (y .entry))))) (now (out .entry)) r (now (out .exit)) ⌝ }
+{
+    let mut xs = [0u64; 2048];
+    let mut ys = [0u64; 64];
+    let mut spare = [0u64; 2048];
+    put_difference(x, y, one, two, &mut xs, &mut ys, &mut spare, out, n)
+}
+
+// The same for at most 8,192 records of x.
+fn put_8192(x: &[u8], y: &[u8], one: u64, two: u64, out: &mut [u64], n: usize) -> usize
+    requires { ⌜ (n + length (items (now x)) < 2 ^ 64) × (length (items (now x)) ≤ 8192) × (length (items (now y)) ≤ 32) ⌝ }
+    ensures { λ r. ⌜ Laid refNumbers 2 n (minus (refsAmong (one ∷ two ∷ []) (items (now (x .entry)))) (refsAmong (one ∷ two ∷ []) (items (now (y .entry))))) (now (out .entry)) r (now (out .exit)) ⌝ }
+{
+    let mut xs = [0u64; 16384];
+    let mut ys = [0u64; 64];
+    let mut spare = [0u64; 16384];
+    put_difference(x, y, one, two, &mut xs, &mut ys, &mut spare, out, n)
+}
+
+// The same for at most 65,536 records of x.
+fn put_65536(x: &[u8], y: &[u8], one: u64, two: u64, out: &mut [u64], n: usize) -> usize
+    requires { ⌜ (n + length (items (now x)) < 2 ^ 64) × (length (items (now x)) ≤ 65536) × (length (items (now y)) ≤ 32) ⌝ }
+    ensures { λ r. ⌜ Laid refNumbers 2 n (minus (refsAmong (one ∷ two ∷ []) (items (now (x .entry)))) (refsAmong (one ∷ two ∷ []) (items (now (y .entry))))) (now (out .entry)) r (now (out .exit)) ⌝ }
+{
+    let mut xs = [0u64; 131072];
+    let mut ys = [0u64; 64];
+    let mut spare = [0u64; 131072];
+    put_difference(x, y, one, two, &mut xs, &mut ys, &mut spare, out, n)
+}
+
+// The same for at most 65,536 records of x and 32 of y.
+pub fn put_sorted(x: &[u8], y: &[u8], one: u64, two: u64, out: &mut [u64], n: usize) -> usize
+    requires { ⌜ (n + length (items (now x)) < 2 ^ 64) × (length (items (now x)) ≤ 65536) × (length (items (now y)) ≤ 32) ⌝ }
+    ensures { λ r. ⌜ Laid refNumbers 2 n (minus (refsAmong (one ∷ two ∷ []) (items (now (x .entry)))) (refsAmong (one ∷ two ∷ []) (items (now (y .entry))))) (now (out .entry)) r (now (out .exit)) ⌝ }
+{
+    let k = x.len() / 70;
+    if k <= 32 {
+        return put_32(x, y, one, two, out, n);
+    }
+    if k <= 1024 {
+        return put_1024(x, y, one, two, out, n);
+    }
+    if k <= 8192 {
+        return put_8192(x, y, one, two, out, n);
+    }
+    put_65536(x, y, one, two, out, n)
 }
