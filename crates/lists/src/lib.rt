@@ -8,7 +8,7 @@ use records::sum_fits;
 use records::unless;
 ghost use mathlib.Core.Path.{_≡_};
 ghost use mathlib.Core.Bool.{not, true, _||_};
-ghost use Prim.Native.Nat.{ℕ, _+_, _*_, _<_, _≤_};
+ghost use Prim.Native.Nat.{ℕ, _+_, _*_, _%_, _<_, _≤_};
 ghost use lib.Dec.{leb, ltb};
 ghost use Rattle.records.specs.Stages.{unless, stage, every};
 ghost use Rattle.item.specs.Items.{fields, items, ranged};
@@ -148,6 +148,14 @@ pub fn list_refusal(list: &[u8], file: u64) -> u8
     0
 }
 
+// How far a number is past a whole sector. The usual sector stands as a constant, which the compiler needs no division for.
+fn past_sector(x: u64, sector: u64) -> u64
+    requires { ⌜ 0 < sector ⌝ }
+    ensures { λ r. ⌜ r ≡ x % sector ⌝ }
+{
+    if sector == 4096 { x % 4096 } else { x % sector }
+}
+
 // Whether an item of kind 1 or 2 has a key and a length of whole sectors.
 pub fn is_whole(item: Item, sector: u64) -> bool
     requires { ⌜ 0 < sector ⌝ }
@@ -156,7 +164,10 @@ pub fn is_whole(item: Item, sector: u64) -> bool
     let length = item.length();
     either(
         !is_ranged(item),
-        both(item.key % sector == 0, length % sector == 0),
+        both(
+            past_sector(item.key, sector) == 0,
+            past_sector(length, sector) == 0,
+        ),
     )
 }
 

@@ -12,11 +12,11 @@ length-requires c κs = search needs
 is-ranged-requires : tie.Need-is-ranged-requires
 is-ranged-requires c κs = search needs
 
-rem-both : tie.Need-rem-both
-rem-both c = search needs
+past-sector-requires : tie.Need-past-sector-requires
+past-sector-requires c κs = search needs
 
-rem-both-2 : tie.Need-rem-both-2
-rem-both-2 c = search needs
+past-sector-requires-2 : tie.Need-past-sector-requires-2
+past-sector-requires-2 c κs = search needs
 
 both-requires : tie.Need-both-requires
 both-requires c κs = search needs
@@ -26,10 +26,12 @@ either-requires c κs = search needs
 
 returns : tie.Need-returns
 returns c =
-    let a = c .before .before .before .before .before .args in
+    let p = c .before .before .before .before in
     c .either .ensures
-    ∙ ap₂ (λ (x y : Bool). not x || y) (c .before .before .before .is-ranged .ensures)
-    (c .before .both .ensures ∙ ap (λ (l : ℕ). eqb (a .item .key % a .sector) 0 && eqb (l % a .sector) 0) (c .before .before .before .before .length .ensures))
+    ∙ ap₂ (λ (x y : Bool). not x || y) (p .is-ranged .ensures)
+    (c .before .both .ensures
+    ∙ ap₂ (λ (x y : ℕ). eqb x 0 && eqb y 0) (c .before .before .before .past-sector .ensures)
+    (c .before .before .past-sector2 .ensures ∙ ap (λ (l : ℕ). l % p .before .before .args .sector) (p .before .length .ensures)))
 
 pub is-whole-spec : {M : Type 1} → statement M
 is-whole-spec =
@@ -37,8 +39,8 @@ is-whole-spec =
     (tie.spec
     length-requires
     is-ranged-requires
-    rem-both
-    rem-both-2
+    past-sector-requires
+    past-sector-requires-2
     both-requires
     either-requires
     returns)
