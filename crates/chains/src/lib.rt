@@ -1,19 +1,22 @@
-// The drops of one extent, chained through an array in list order: whether they free it, and a line for each. A number in
-// the array is an index and one more, and 0 ends the chain.
+// Drops chained by row, through arrays, in list order: whether those of a row free its extent, and a line for each. A number
+// in the arrays is an index and one more, and 0 ends a chain.
 use item::Item;
 use records::both;
+use table::Found;
 ghost use mathlib.Core.Path.{_≡_};
-ghost use mathlib.Core.Bool.{Bool, cond, not};
+ghost use mathlib.Core.Bool.{Bool, true, cond, not};
 ghost use mathlib.Core.List.{[], _∷_, map};
-ghost use Prim.Native.Nat.{_+_, _<_, _^_};
-ghost use lib.ListN.{length};
+ghost use Prim.Native.Nat.{_+_, _*_, _/_, _<_, _^_, min, max};
+ghost use lib.ListN.{length, drop};
 ghost use Rattle.records.specs.Select.{keep};
-ghost use Rattle.item.specs.Items.{fields, items};
+ghost use Rattle.item.specs.Items.{Fields, fields, decode, items};
+ghost use Rattle.table.specs.Rows.{rows, tableKept};
 ghost use Rattle.cut.specs.Refs.{refOf};
 ghost use Rattle.plan.specs.Outputs.{refNumbers};
 ghost use Rattle.lines.specs.Lines.{Laid};
-ghost use Rattle.refs.specs.Drops.{Held, held};
+ghost use Rattle.refs.specs.Drops.{Held, held, releases, unrefs};
 ghost use Rattle.chains.specs.Chains.{Chain, freed, lineIn, chainLines};
+ghost use Rattle.chains.specs.Links.{wider, dropsBy, Linked};
 
 // A number of the array.
 pub fn wide(x: u32) -> usize
@@ -104,4 +107,90 @@ pub fn put_chain(
         return put_all(list, shared, nexts, head, out, n);
     }
     n
+}
+
+// ---- the chains of all rows
+
+// Rows from one number up to another; none where `to` is not past `from`.
+pub struct Span {
+    pub from: usize,
+    pub to: usize,
+}
+
+fn lower(a: usize, b: usize) -> usize
+    ensures { λ r. ⌜ r ≡ min a b ⌝ }
+{
+    if a < b { a } else { b }
+}
+
+pub fn upper(a: usize, b: usize) -> usize
+    ensures { λ r. ⌜ r ≡ max a b ⌝ }
+{
+    if a < b { b } else { a }
+}
+
+// A span with row k in it.
+fn widened(s: Span, k: usize) -> Span
+    requires { ⌜ k + 1 < 2 ^ 64 ⌝ }
+    ensures { λ r. ⌜ r ≡ wider s k ⌝ }
+{
+    Span {
+        from: lower(s.from, k),
+        to: upper(s.to, k + 1),
+    }
+}
+
+// Item i put before the chain of its row, if it is dropped and has a row.
+pub fn link_item(
+    dropped: bool,
+    list: &[u8],
+    shared: &[u8],
+    table: &[u64],
+    i: usize,
+    heads: &mut [u32],
+    nexts: &mut [u32],
+    span: Span,
+) -> Span
+    requires { ⌜ tableKept (rows (now table)) ≡ true ⌝ }
+    requires { ⌜ (length (now shared) ≡ length (items (now list))) × (i < length (now list) / 70) ⌝ }
+    requires { ⌜ ((p : Fields → Bool) × Linked p (rows (now table)) (held (items (now list)) (now shared)) (i + 1) (now heads) (now nexts) span) ⌝ }
+    ensures { λ r. ⌜ ((p : Fields → Bool) → dropped ≡ p (decode (drop (i * 70) (now (list .entry)))) → Linked p (rows (now (table .entry))) (held (items (now (list .entry))) (now (shared .entry))) (i + 1) (now (heads .entry)) (now (nexts .entry)) span → Linked p (rows (now (table .entry))) (held (items (now (list .entry))) (now (shared .entry))) i (now (heads .exit)) (now (nexts .exit)) r) ⌝ }
+{
+    if !dropped {
+        return span;
+    }
+    let item = item::item_at(list, i);
+    let Found::At(k, _) = table::find_row(table, item.extent_start()) else {
+        return span;
+    };
+    nexts[i] = heads[k];
+    heads[k] = (i + 1) as u32;
+    widened(span, k)
+}
+
+// The lines of all rows of a span, by the chains of their drops. No row outside of it has a drop.
+pub fn put_span(
+    release: bool,
+    list: &[u8],
+    shared: &[u8],
+    table: &[u64],
+    heads: &[u32],
+    nexts: &[u32],
+    span: Span,
+    out: &mut [u64],
+    n: usize,
+) -> usize
+    requires { ⌜ length (now shared) ≡ length (items (now list)) ⌝ }
+    requires { ⌜ ((p : Fields → Bool) × Linked p (rows (now table)) (held (items (now list)) (now shared)) 0 (now heads) (now nexts) span × (n + length (cond release (releases (rows (now table)) (dropsBy p (held (items (now list)) (now shared)))) (unrefs (rows (now table)) (dropsBy p (held (items (now list)) (now shared))))) < 2 ^ 64)) ⌝ }
+    ensures { λ r. ⌜ ((p : Fields → Bool) → Linked p (rows (now (table .entry))) (held (items (now (list .entry))) (now (shared .entry))) 0 (now (heads .entry)) (now (nexts .entry)) span → Laid refNumbers 2 n (cond release (releases (rows (now (table .entry))) (dropsBy p (held (items (now (list .entry))) (now (shared .entry))))) (unrefs (rows (now (table .entry))) (dropsBy p (held (items (now (list .entry))) (now (shared .entry)))))) (now (out .entry)) r (now (out .exit))) ⌝ }
+{
+    let mut at = n;
+    let from = span.from;
+    let to = span.to;
+    for k in from..to {
+        let row = table::row_at(table, k);
+        let head = wide(heads[k]);
+        at = put_chain(release, row.references, list, shared, nexts, head, out, at);
+    }
+    at
 }

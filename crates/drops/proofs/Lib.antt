@@ -2,4 +2,3 @@ pub mod Refusals
 pub mod Tallies
 pub mod Rows
 pub mod Cuts
-pub mod Links

@@ -19,11 +19,9 @@ use Rattle.table.proofs.Laws.{kept-tail, kept-length, kept-pairs}
 use Rattle.cut.specs.Refs.{Ref, refOf}
 use Rattle.refs.specs.Drops.{Held, held, dropsOf, lines, released, releases, unrefs}
 use Rattle.refs.proofs.Drops.{drops-number, held-length}
-use Rattle.chains.specs.Chains.{chainLines}
 use Rattle.drops.specs.declared.Cut.{Cut}
 use Rattle.drops.specs.Dropped.{taken, dropped, dropsIn}
 use Rattle.drops.specs.Raw.{dropOf, lineOf, rowLines}
-use Rattle.drops.specs.Links.{dropAt}
 use Rattle.drops.proofs.Tallies.{ofExtent, drops-of}
 
 -- ---- the lines of one extent: the shared bytes do not count
@@ -79,12 +77,6 @@ module _ (c : Cut) (release : Bool) (fs : List Fields) (bs : List ℕ) (row : Ro
 
   pub row-none : t ≡ false → rowLines release (dropsIn c fs bs) row ≡ []
   row-none z = row-lines release (dropsIn c fs bs) row u t e h ∙ rw z refl
-
--- the same by the chain of a row's drops
-pub row-chained : (c : Cut) (release : Bool) (fs : List Fields) (bs : List ℕ) (row : Row) → rowLines release (dropsIn c fs bs) row ≡ chainLines release (row .references) (keep (dropAt c (row .start)) (held fs bs))
-row-chained c release fs bs row =
-    row-lines release (dropsIn c fs bs) row (released (dropsIn c fs bs) row) (cond release (released (dropsIn c fs bs) row) (not (released (dropsIn c fs bs) row))) refl refl
-    ∙ ap (chainLines release (row .references)) (drops-of c (row .start) fs bs)
 
 -- ---- all rows
 

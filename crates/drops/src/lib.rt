@@ -1,5 +1,6 @@
 // Items that a cut drops, over a lent list, its shared bytes and the table: what they are refused with, which extents
 // are released, and a line for each drop.
+use chains::Span;
 use item::Item;
 use records::both;
 use records::either;
@@ -9,17 +10,16 @@ use table::Row;
 ghost use mathlib.Core.Path.{_≡_};
 ghost use mathlib.Core.Bool.{true, cond, not};
 ghost use mathlib.Core.List.{List, flatMap};
-ghost use Prim.Native.Nat.{ℕ, _+_, _/_, _≤_, _<_, _^_, min, max};
+ghost use Prim.Native.Nat.{ℕ, _+_, _/_, _≤_, _<_, _^_};
 ghost use lib.ListN.{length};
 ghost use Rattle.item.specs.Items.{fields, items};
 ghost use Rattle.table.specs.Rows.{rows, tableKept};
 ghost use Rattle.plan.specs.Outputs.{refNumbers};
 ghost use Rattle.lines.specs.Lines.{Laid};
 ghost use Rattle.refs.specs.Drops.{held, windowSound, dropRefusal, earlier, dropsRefusal, released, releases, unrefs};
-ghost use Rattle.drops.specs.declared.Cut.{Cut};
 ghost use Rattle.drops.specs.Dropped.{taken, dropsIn};
 ghost use Rattle.drops.specs.Raw.{due, itemDue, dropOf, lineOf, rowLines};
-ghost use Rattle.drops.specs.Links.{wider, Blank, Linked};
+ghost use Rattle.chains.specs.Links.{Blank, Linked};
 
 // The range that is cut, and the starts of two extents that are written in place (0: none), whose items are compared
 // instead of dropped.
@@ -221,63 +221,6 @@ fn put_plain(
 
 // ---- drops chained by row
 
-// Rows from one number up to another; none where `to` is not past `from`.
-struct Span {
-    from: usize,
-    to: usize,
-}
-
-fn lower(a: usize, b: usize) -> usize
-    ensures { λ r. ⌜ r ≡ min a b ⌝ }
-{
-    if a < b { a } else { b }
-}
-
-fn upper(a: usize, b: usize) -> usize
-    ensures { λ r. ⌜ r ≡ max a b ⌝ }
-{
-    if a < b { b } else { a }
-}
-
-// A span with row k in it.
-fn widened(s: Span, k: usize) -> Span
-    requires { ⌜ k + 1 < 2 ^ 64 ⌝ }
-    ensures { λ r. ⌜ r ≡ wider s k ⌝ }
-{
-    Span {
-        from: lower(s.from, k),
-        to: upper(s.to, k + 1),
-    }
-}
-
-// Item i put before the chain of its row, if it is a drop and has one.
-fn link_item(
-    c: Cut,
-    list: &[u8],
-    shared: &[u8],
-    table: &[u64],
-    i: usize,
-    heads: &mut [u32],
-    nexts: &mut [u32],
-    span: Span,
-) -> Span
-    requires { ⌜ tableKept (rows (now table)) ≡ true ⌝ }
-    requires { ⌜ (length (now shared) ≡ length (items (now list))) × (i < length (now list) / 70) ⌝ }
-    requires { ⌜ Linked c (rows (now table)) (held (items (now list)) (now shared)) (i + 1) (now heads) (now nexts) span ⌝ }
-    ensures { λ r. ⌜ Linked c (rows (now (table .entry))) (held (items (now (list .entry))) (now (shared .entry))) i (now (heads .exit)) (now (nexts .exit)) r ⌝ }
-{
-    let item = item::item_at(list, i);
-    if !is_dropped(c, item) {
-        return span;
-    }
-    let Found::At(k, _) = table::find_row(table, item.extent_start()) else {
-        return span;
-    };
-    nexts[i] = heads[k];
-    heads[k] = (i + 1) as u32;
-    widened(span, k)
-}
-
 // The drops chained by row, in list order, as they are put in from the last to the first; the rows that have one.
 fn link(
     c: Cut,
@@ -290,7 +233,7 @@ fn link(
     requires { ⌜ tableKept (rows (now table)) ≡ true ⌝ }
     requires { ⌜ length (now shared) ≡ length (items (now list)) ⌝ }
     requires { ⌜ Blank (rows (now table)) (held (items (now list)) (now shared)) (now heads) (now nexts) ⌝ }
-    ensures { λ r. ⌜ Linked c (rows (now (table .entry))) (held (items (now (list .entry))) (now (shared .entry))) 0 (now (heads .exit)) (now (nexts .exit)) r ⌝ }
+    ensures { λ r. ⌜ Linked (taken c) (rows (now (table .entry))) (held (items (now (list .entry))) (now (shared .entry))) 0 (now (heads .exit)) (now (nexts .exit)) r ⌝ }
 {
     let mut i = list.len() / 70;
     let mut span = Span {
@@ -299,38 +242,10 @@ fn link(
     };
     while i > 0 {
         i -= 1;
-        span = link_item(c, list, shared, table, i, heads, nexts, span);
+        let dropped = is_dropped(c, item::item_at(list, i));
+        span = chains::link_item(dropped, list, shared, table, i, heads, nexts, span);
     }
     span
-}
-
-// The lines of all rows of a span, by the chains of their drops. No row outside of it has a drop.
-fn put_span(
-    release: bool,
-    list: &[u8],
-    shared: &[u8],
-    table: &[u64],
-    heads: &[u32],
-    nexts: &[u32],
-    span: Span,
-    out: &mut [u64],
-    n: usize,
-) -> usize
-    requires { ⌜ tableKept (rows (now table)) ≡ true ⌝ }
-    requires { ⌜ length (now shared) ≡ length (items (now list)) ⌝ }
-    requires { ⌜ n + length (items (now list)) < 2 ^ 64 ⌝ }
-    requires { ⌜ ((c : Cut) × Linked c (rows (now table)) (held (items (now list)) (now shared)) 0 (now heads) (now nexts) span) ⌝ }
-    ensures { λ r. ⌜ ((c : Cut) → Linked c (rows (now (table .entry))) (held (items (now (list .entry))) (now (shared .entry))) 0 (now (heads .entry)) (now (nexts .entry)) span → Laid refNumbers 2 n (cond release (releases (rows (now (table .entry))) (dropsIn c (items (now (list .entry))) (now (shared .entry)))) (unrefs (rows (now (table .entry))) (dropsIn c (items (now (list .entry))) (now (shared .entry))))) (now (out .entry)) r (now (out .exit))) ⌝ }
-{
-    let mut at = n;
-    let from = span.from;
-    let to = span.to;
-    for k in from..to {
-        let row = table::row_at(table, k);
-        let head = chains::wide(heads[k]);
-        at = chains::put_chain(release, row.references, list, shared, nexts, head, out, at);
-    }
-    at
 }
 
 // The lines of all rows: the drops are chained by row first, through arrays that are lent.
@@ -352,7 +267,7 @@ fn put_linked(
     ensures { λ r. ⌜ Laid refNumbers 2 n (cond release (releases (rows (now (table .entry))) (dropsIn c (items (now (list .entry))) (now (shared .entry)))) (unrefs (rows (now (table .entry))) (dropsIn c (items (now (list .entry))) (now (shared .entry))))) (now (out .entry)) r (now (out .exit)) ⌝ }
 {
     let span = link(c, list, shared, table, heads, nexts);
-    put_span(release, list, shared, table, heads, nexts, span, out, n)
+    chains::put_span(release, list, shared, table, heads, nexts, span, out, n)
 }
 
 // The lines of all rows, with arrays of a size that suffices: for short lists and tables,
@@ -463,7 +378,7 @@ pub fn put_drops(
     requires { ⌜ n + length (items (now list)) < 2 ^ 64 ⌝ }
     ensures { λ r. ⌜ Laid refNumbers 2 n (cond release (releases (rows (now (table .entry))) (dropsIn c (items (now (list .entry))) (now (shared .entry)))) (unrefs (rows (now (table .entry))) (dropsIn c (items (now (list .entry))) (now (shared .entry))))) (now (out .entry)) r (now (out .exit)) ⌝ }
 {
-    let most = upper(table.len() / 5, list.len() / 70);
+    let most = chains::upper(table.len() / 5, list.len() / 70);
     if most <= 64 {
         return put_few(c, release, list, shared, table, out, n);
     }

@@ -1,14 +1,15 @@
-use Rattle.drops.proofs.Links.{linked-first, linked-same}
-use Rattle.drops.specs.Links.{Linked}
+use Rattle.chains.proofs.Links.{linked-first, linked-same}
+use Rattle.chains.specs.Links.{Linked}
+use Rattle.drops.specs.Dropped.{taken}
 use Rattle.refs.specs.Drops.{held}
 use Rattle.refs.proofs.Drops.{held-length}
-use Rattle.item.specs.Items.{items}
-use Rattle.item.proofs.Laws.{items-length}
+use Rattle.item.specs.Items.{Fields, items}
+use Rattle.item.proofs.Laws.{item-decode, items-length}
 use Rattle.table.specs.Rows.{rows}
 use denote.Ref.{now}
 use lib.ListN.{length}
-use Prim.Native.Nat.{_+_, _-_, _/_, _≤_}
-use mathlib.Core.Path.{_≡_, refl}
+use Prim.Native.Nat.{_-_, _/_, _≤_}
+use mathlib.Core.Path.{_≡_, refl, ap, _∙_}
 use native.Mathlib.Omega.{arith}
 use borrow.Author.Needs.{needs}
 use Rattle.drops.proofs.link.Statement.{statement}
@@ -16,7 +17,7 @@ use Rattle.drops.proofs.link.Tie as tie
 
 abbrev Inv-loop : tie.InvT-loop
 Inv-loop c list shared table heads₀ nexts₀ i₀ span₀ heads nexts i span =
-    (i ≤ length list / 70) × (length heads ≡ length heads₀) × (length nexts ≡ length nexts₀) × Linked c (rows table) (held (items list) shared) i heads nexts span
+    (i ≤ length list / 70) × (length heads ≡ length heads₀) × (length nexts ≡ length nexts₀) × Linked (taken c) (rows table) (held (items list) shared) i heads nexts span
 
 abbrev μ-loop : tie.MeasureT-loop
 μ-loop c list shared table heads₀ nexts₀ i₀ span₀ heads nexts i span = i
@@ -24,21 +25,30 @@ abbrev μ-loop : tie.MeasureT-loop
 loop-holds : tie.Need-loop-holds Inv-loop μ-loop
 loop-holds c =
     let a = c .before .before .before .before .before in
-    (omega arith, refl, refl, linked-first (a .args .c) (now (a .args .table)) _ _ _ _ (a .pre .1 .1) (omega (arith, a .pre .1 .0, held-length (items (now (a .args .list))) (now (a .args .shared)) (a .pre .1 .0), items-length (now (a .args .list)))))
+    (omega arith, refl, refl, linked-first (taken (a .args .c)) (now (a .args .table)) _ _ _ _ (a .pre .1 .1) (omega (arith, a .pre .1 .0, held-length (items (now (a .args .list))) (now (a .args .shared)) (a .pre .1 .0), items-length (now (a .args .list)))))
 
 sub-i : tie.Need-sub-i Inv-loop μ-loop
 sub-i c = omega arith
 
+item-at-requires : tie.Need-item-at-requires Inv-loop μ-loop
+item-at-requires c κs = omega (arith, c .before .loop .inv .0, c .loop-test .taken)
+
+is-dropped-requires : tie.Need-is-dropped-requires Inv-loop μ-loop
+is-dropped-requires c κs = search needs
+
 link-item-requires : tie.Need-link-item-requires Inv-loop μ-loop
 link-item-requires c κs =
-    let a = c .before .before .before .before .before .before .before .before .before in
-    (a .pre .0, ((a .pre .1 .0, omega arith), linked-same _ _ _ _ _ _ _ _ (omega arith) (c .before .before .before .loop .inv .3)))
+    let a = c .before .before .before .before .before .before .before .before .before .before .before in
+    (a .pre .0, ((a .pre .1 .0, omega (arith, c .before .before .before .before .before .loop .inv .0, c .before .before .before .before .loop-test .taken)), (taken (a .args .c), linked-same _ _ _ _ _ _ _ _ (omega (arith, c .before .before .before .before .loop-test .taken)) (c .before .before .before .before .before .loop .inv .3))))
 
 loop-less : tie.Need-loop-less Inv-loop μ-loop
-loop-less c = omega arith
+loop-less c = omega (arith, c .before .before .before .before .before .before .before .before .before .loop-test .taken)
 
 loop-again : tie.Need-loop-again Inv-loop μ-loop
-loop-again c = (omega arith, search needs, search needs, c .before .before .before .before .link-item .ensures)
+loop-again c =
+    let a = c .before .before .before .before .before .before .before .before .before .before .before .before .before .before .before .before in
+    let e = c .before .before .before .before .before .before .before .is-dropped .ensures ∙ ap (taken (a .args .c)) (item-decode _ _ (c .before .before .before .before .before .before .before .before .item-at .ensures)) in
+    (omega (arith, c .before .before .before .before .before .before .before .before .before .before .loop .inv .0), search needs, search needs, c .before .before .before .before .link-item .ensures (taken (a .args .c)) e (linked-same _ _ _ _ _ _ _ _ (omega (arith, c .before .before .before .before .before .before .before .before .before .loop-test .taken)) (c .before .before .before .before .before .before .before .before .before .before .loop .inv .3)))
 
 same-length : tie.Need-same-length Inv-loop μ-loop
 same-length c = c .before .loop .inv .1
@@ -52,4 +62,16 @@ returns c = linked-same _ _ _ _ _ _ _ _ (omega arith) (c .before .loop .inv .3)
 pub link-spec : {M : Type 1} → statement M
 link-spec =
     tie.close
-    (tie.spec Inv-loop μ-loop loop-holds sub-i link-item-requires loop-less loop-again same-length same-length-2 returns)
+    (tie.spec
+    Inv-loop
+    μ-loop
+    loop-holds
+    sub-i
+    item-at-requires
+    is-dropped-requires
+    link-item-requires
+    loop-less
+    loop-again
+    same-length
+    same-length-2
+    returns)

@@ -1,4 +1,4 @@
-use Rattle.drops.proofs.Links.{blank}
+use Rattle.chains.proofs.Links.{blank}
 use denote.Ref.{now}
 use lib.ListN.{length-replicate}
 use Prim.Native.Nat.{ℕ}

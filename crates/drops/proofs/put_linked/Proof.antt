@@ -1,3 +1,11 @@
+use Rattle.drops.proofs.Rows.{lines-rows, kind-most}
+use Rattle.drops.specs.Dropped.{taken, dropsIn}
+use Rattle.item.specs.Items.{items}
+use Rattle.table.specs.Rows.{rows}
+use denote.Ref.{now}
+use lib.ListN.{length}
+use mathlib.Core.Path.{ap}
+use native.Mathlib.Omega.{arith}
 use borrow.Author.Needs.{needs}
 use Rattle.drops.proofs.put_linked.Statement.{statement}
 use Rattle.drops.proofs.put_linked.Tie as tie
@@ -8,7 +16,9 @@ link-requires c κs = search needs
 put-span-requires : tie.Need-put-span-requires
 put-span-requires c κs =
     let a = c .before .before .before .before .before .before .before .before .before .before .before .before .before .before .before .before in
-    (a .pre .0, (a .pre .1 .0, (a .pre .1 .1 .0, (a .args .c, c .before .before .before .before .before .before .before .link .ensures))))
+    let most = kind-most (a .args .c) (a .args .release) (rows (now (a .args .table))) (items (now (a .args .list))) (now (a .args .shared)) (a .pre .0) (a .pre .1 .0) in
+    let same = ap length (lines-rows (a .args .release) (rows (now (a .args .table))) (dropsIn (a .args .c) (items (now (a .args .list))) (now (a .args .shared)))) in
+    (a .pre .1 .0, (taken (a .args .c), c .before .before .before .before .before .before .before .link .ensures, omega (arith, a .pre .1 .1 .0, most, same)))
 
 same-length : tie.Need-same-length
 same-length c = search needs
@@ -22,9 +32,7 @@ same-length-3 c = search needs
 returns : tie.Need-returns
 returns c =
     let a = c .before .before .before .before .before .before .before .before .before .before .before .before .before .before .before .before .before .before .before in
-    c .before .before .put-span .ensures (a .args .c) (c .before .before .before .before .before .before .before .before .before .before .link .ensures)
+    c .before .before .put-span .ensures (taken (a .args .c)) (c .before .before .before .before .before .before .before .before .before .before .link .ensures)
 
 pub put-linked-spec : {M : Type 1} → statement M
-put-linked-spec =
-    tie.close
-    (tie.spec link-requires put-span-requires same-length same-length-2 same-length-3 returns)
+put-linked-spec = tie.close (tie.spec link-requires put-span-requires same-length same-length-2 same-length-3 returns)

@@ -1,9 +1,9 @@
 use borrow.Author.Needs.{needs}
 use mathlib.Core.Path.{ap₂}
 use Prim.Native.Nat.{ℕ}
-use Rattle.drops.specs.declared.Span.{Span}
-use Rattle.drops.proofs.widened.Statement.{statement}
-use Rattle.drops.proofs.widened.Tie as tie
+use Rattle.chains.specs.declared.Span.{Span}
+use Rattle.chains.proofs.widened.Statement.{statement}
+use Rattle.chains.proofs.widened.Tie as tie
 
 lower-requires : tie.Need-lower-requires
 lower-requires c κs = search needs
