@@ -1,15 +1,16 @@
 -- Loops over places along a walk: the adds that are ahead. Assumes nothing.
 use mathlib.Core.Path.{_≡_, refl, ap, _∙_, sym}
-use mathlib.Core.Bool.{Bool, true, _&&_}
+use mathlib.Core.Bool.{Bool, true, false, _&&_}
 use mathlib.Core.List.{List, [], _∷_, _++_, map}
-use Prim.Native.Nat.{ℕ, _+_, _≤_, _<_}
+use Prim.Native.Nat.{ℕ, zero, suc, _+_, _/_, _≤_, _<_}
 use native.Mathlib.Omega.{arith}
 use native.Mathlib.Numerals.{add-one}
-use lib.ListN.{length, getD, drop, length-drop, length-map, drop-of-length-le}
-use lib.Seq.{drop-cons}
+use lib.ListN.{length, getD, take, drop, length-drop, length-map, drop-of-length-le}
+use lib.Seq.{drop-cons, length-take-le}
 use borrow.Author.Tests.{eq-eqb}
 use Rattle.records.specs.Stages.{unless, first, every, pairs}
-use Rattle.records.proofs.Tests.{first-go, first-stop, first-unless}
+use Rattle.records.proofs.Tests.{both, both-left, both-right, first-go, first-stop, first-unless}
+use Rattle.records.proofs.Lists.{every-take}
 use Rattle.item.specs.Items.{Fields}
 use Rattle.table.specs.declared.Row.{Row}
 use Rattle.plan.specs.Plans.{Add}
@@ -26,14 +27,18 @@ use Rattle.holes.proofs.Walking.{left-all, walked-cons}
 use Rattle.adds.specs.Wishes.{wantedOf}
 use Rattle.adds.proofs.Keys.{placed-most}
 
+-- as many are enough
+pub enough : (a b : ℕ) → a ≡ b → b ≤ a
+enough a b e = omega arith
+
 module _ (w : NewExtents) (fs : List Fields) (ps : List ℕ) where
   -- the adds from place n on, at a walk behind those before them
   abbrev pub ahead : ℕ → Cursor → List Add
   ahead n c = placed (drop n ps) (map wantedOf (left w fs c))
 
-  -- as many extents are left as places
+  -- there are as many extents left as places, or more
   abbrev pub Even : ℕ → Cursor → Type 0
-  Even n c = length (left w fs c) ≡ length (drop n ps)
+  Even n c = length (drop n ps) ≤ length (left w fs c)
 
   -- the add of place n and a step
   abbrev pub addOf : ℕ → Step → Add
@@ -58,8 +63,8 @@ module _ (w : NewExtents) (fs : List Fields) (ps : List ℕ) where
   pub ahead-all : (c : Cursor) → c ≡ record { rest = record { start = 0; stop = 0 }; next = 0 } → ahead 0 c ≡ placed ps (map wantedOf (wishes w fs))
   ahead-all c e = ap (λ (l : List Span). placed ps (map wantedOf l)) (left-all w fs c e)
 
-  pub even-all : (c : Cursor) → c ≡ record { rest = record { start = 0; stop = 0 }; next = 0 } → length (wishes w fs) ≡ length ps → Even 0 c
-  even-all c e h = ap (λ (l : List Span). length l) (left-all w fs c e) ∙ h
+  pub even-all : (c : Cursor) → c ≡ record { rest = record { start = 0; stop = 0 }; next = 0 } → length ps ≤ length (wishes w fs) → Even 0 c
+  even-all c e h = rw (left-all w fs c e) h
 
   pub ahead-none : (n : ℕ) (c : Cursor) → length ps ≤ n → ahead n c ≡ []
   unfolding placed
@@ -72,7 +77,7 @@ module _ (w : NewExtents) (fs : List Fields) (ps : List ℕ) where
     pub told : unless (test (ahead n c)) 26 ≡ whole
 
   -- at the start
-  pub testing-all : (test : List Add → Bool) (c : Cursor) → c ≡ record { rest = record { start = 0; stop = 0 }; next = 0 } → length (wishes w fs) ≡ length ps
+  pub testing-all : (test : List Add → Bool) (c : Cursor) → c ≡ record { rest = record { start = 0; stop = 0 }; next = 0 } → length ps ≤ length (wishes w fs)
       → Testing test (unless (test (placed ps (map wantedOf (wishes w fs)))) 26) 0 c
   testing-all test c e h = record { even = even-all c e h; told = ap (λ (l : List Add). unless (test l) 26) (ahead-all c e) }
 
@@ -106,7 +111,7 @@ module _ (w : NewExtents) (fs : List Fields) (ps : List ℕ) where
       pub even : Even n c
       pub going : Going f v 0 all out₀ m (ahead n c) out
 
-    pub adding-all : (c : Cursor) (out : List ℕ) → c ≡ record { rest = record { start = 0; stop = 0 }; next = 0 } → length (wishes w fs) ≡ length ps → Adding out 0 c 0 out
+    pub adding-all : (c : Cursor) (out : List ℕ) → c ≡ record { rest = record { start = 0; stop = 0 }; next = 0 } → length ps ≤ length (wishes w fs) → Adding out 0 c 0 out
     adding-all c out e h = record { even = even-all c e h; going = rw (ahead-all c e) (going-first f v 0 all out) }
 
     module _ (out₀ : List ℕ) (n : ℕ) (c : Cursor) (m : ℕ) (out : List ℕ) (g : Adding out₀ n c m out) where
@@ -148,6 +153,35 @@ every-none p = refl
 pub pairs-none : (p : Add → Add → Bool) → pairs p [] ≡ true
 unfolding pairs
 pairs-none p = refl
+
+-- ---- a part of the places that is refused, refuses all
+
+placed-take : (k : ℕ) (ps : List ℕ) (ws : List Wanted) → placed (take k ps) ws ≡ take k (placed ps ws)
+unfolding placed
+placed-take zero ps ws = refl
+placed-take (suc k) [] ws = refl
+placed-take (suc k) (p ∷ ps) [] = refl
+placed-take (suc k) (p ∷ ps) (w ∷ ws) = ap (λ (l : List Add). record { start = p; length = w .length; key = w .key } ∷ l) (placed-take k ps ws)
+
+pairs-take : (p : Add → Add → Bool) (k : ℕ) (l : List Add) → pairs p l ≡ true → pairs p (take k l) ≡ true
+unfolding pairs
+pairs-take p zero l h = refl
+pairs-take p (suc k) [] h = refl
+pairs-take p (suc k) (a ∷ l) h = both (every (p a) (take k l)) (pairs p (take k l)) (every-take (p a) k l (both-left (every (p a) l) (pairs p l) h)) (pairs-take p k l (both-right (every (p a) l) (pairs p l) h))
+
+pub half-long : (ps : List ℕ) → length (take (length ps / 2) ps) ≡ length ps / 2
+half-long ps = length-take-le (length ps / 2) ps (omega arith)
+
+pub part-refused : (k : ℕ) (ps : List ℕ) (ws : List Wanted) (x : ℕ) → x ≡ unless (pairs placesApart (placed (take k ps) ws)) 26 → (x ≡ 0 → ⊥) → x ≡ unless (pairs placesApart (placed ps ws)) 26
+part-refused k ps ws x e z = go (pairs placesApart (placed ps ws)) refl
+  where
+    go : (b : Bool) → pairs placesApart (placed ps ws) ≡ b → x ≡ unless b 26
+    go true q = e ∙ ap (λ (c : Bool). unless c 26) (ap (pairs placesApart) (placed-take k ps ws) ∙ pairs-take placesApart k (placed ps ws) q)
+    go false q = twentysix (pairs placesApart (placed (take k ps) ws)) e
+      where
+        twentysix : (b : Bool) → x ≡ unless b 26 → x ≡ 26
+        twentysix true y = absurd (z y)
+        twentysix false y = y
 
 -- ---- all of refusal 26, where the number of places is right
 pub places-right : (rows : List Row) (ps : List ℕ) (ss : List Span) (x y r : ℕ) → length ss ≡ length ps

@@ -45,7 +45,7 @@ fn apart_refusal(
     start: u64,
     size: u64,
 ) -> u8
-    requires { ⌜ Ends (items (now list)) × (length (left w (items (now list)) c) ≡ length (drop from (now places))) ⌝ }
+    requires { ⌜ Ends (items (now list)) × (length (drop from (now places)) ≤ length (left w (items (now list)) c)) ⌝ }
     ensures { λ r. ⌜ r ≡ unless (every (placesApart (addAt start size)) (placed (drop from (now (places .entry))) (map wantedOf (left w (items (now (list .entry))) c)))) 26 ⌝ }
 {
     let mut c = c;
@@ -62,7 +62,7 @@ fn apart_refusal(
 
 // Refusal 26 of each two places, by pairs.
 fn plain_refusal(w: NewExtents, list: &[u8], places: &[u64]) -> u8
-    requires { ⌜ Ends (items (now list)) × (length (wishes w (items (now list))) ≡ length (now places)) ⌝ }
+    requires { ⌜ Ends (items (now list)) × (length (now places) ≤ length (wishes w (items (now list)))) ⌝ }
     ensures { λ r. ⌜ r ≡ unless (pairs placesApart (placed (now (places .entry)) (map wantedOf (wishes w (items (now (list .entry))))))) 26 ⌝ }
 {
     let mut c = holes::walk_start();
@@ -79,7 +79,7 @@ fn plain_refusal(w: NewExtents, list: &[u8], places: &[u64]) -> u8
 
 // The extents at their places, each as a pair of its start and length.
 fn put_extents(w: NewExtents, list: &[u8], places: &[u64], out: &mut [u64]) -> usize
-    requires { ⌜ Ends (items (now list)) × (length (wishes w (items (now list))) ≡ length (now places)) ⌝ }
+    requires { ⌜ Ends (items (now list)) × (length (now places) ≤ length (wishes w (items (now list)))) ⌝ }
     ensures { λ r. ⌜ Laid extentNumbers 2 0 (placed (now (places .entry)) (map wantedOf (wishes w (items (now (list .entry)))))) (now (out .entry)) r (now (out .exit)) ⌝ }
 {
     let mut c = holes::walk_start();
@@ -100,7 +100,7 @@ fn sorted_refusal(
     xs: &mut [u64],
     spare: &mut [u64],
 ) -> u8
-    requires { ⌜ Ends (items (now list)) × (length (wishes w (items (now list))) ≡ length (now places)) × (length (now places) * 2 ≤ length (now xs)) × (length (now xs) ≤ length (now spare)) ⌝ }
+    requires { ⌜ Ends (items (now list)) × (length (now places) ≤ length (wishes w (items (now list)))) × (length (now places) * 2 ≤ length (now xs)) × (length (now xs) ≤ length (now spare)) ⌝ }
     ensures { λ r. ⌜ r ≡ unless (pairs placesApart (placed (now (places .entry)) (map wantedOf (wishes w (items (now (list .entry))))))) 26 ⌝ }
 {
     let n = put_extents(w, list, places, xs);
@@ -109,7 +109,7 @@ fn sorted_refusal(
 
 // The same with buffers of its own, for up to 1,024 places: small ones take less time to zero.
 fn few_refusal(w: NewExtents, list: &[u8], places: &[u64]) -> u8
-    requires { ⌜ Ends (items (now list)) × (length (wishes w (items (now list))) ≡ length (now places)) × (length (now places) ≤ 1024) ⌝ }
+    requires { ⌜ Ends (items (now list)) × (length (now places) ≤ length (wishes w (items (now list)))) × (length (now places) ≤ 1024) ⌝ }
     ensures { λ r. ⌜ r ≡ unless (pairs placesApart (placed (now (places .entry)) (map wantedOf (wishes w (items (now (list .entry))))))) 26 ⌝ }
 {
     let mut xs = [0u64; 2048];
@@ -119,7 +119,7 @@ fn few_refusal(w: NewExtents, list: &[u8], places: &[u64]) -> u8
 
 // For up to 65,536.
 fn many_refusal(w: NewExtents, list: &[u8], places: &[u64]) -> u8
-    requires { ⌜ Ends (items (now list)) × (length (wishes w (items (now list))) ≡ length (now places)) × (length (now places) ≤ 65536) ⌝ }
+    requires { ⌜ Ends (items (now list)) × (length (now places) ≤ length (wishes w (items (now list)))) × (length (now places) ≤ 65536) ⌝ }
     ensures { λ r. ⌜ r ≡ unless (pairs placesApart (placed (now (places .entry)) (map wantedOf (wishes w (items (now (list .entry))))))) 26 ⌝ }
 {
     let mut xs = [0u64; 131072];
@@ -127,9 +127,10 @@ fn many_refusal(w: NewExtents, list: &[u8], places: &[u64]) -> u8
     sorted_refusal(w, list, places, &mut xs, &mut spare)
 }
 
-// Refusal 26 of each two places. Few are compared by pairs.
+// Refusal 26 of each two places. Few are compared by pairs; so are very many, if the first half is not refused. As the function
+// calls itself, the compiler leaves the buffers to the functions that have them: within a caller they would cost every call.
 fn pairs_refusal(w: NewExtents, list: &[u8], places: &[u64]) -> u8
-    requires { ⌜ Ends (items (now list)) × (length (wishes w (items (now list))) ≡ length (now places)) ⌝ }
+    requires { ⌜ Ends (items (now list)) × (length (now places) ≤ length (wishes w (items (now list)))) ⌝ }
     ensures { λ r. ⌜ r ≡ unless (pairs placesApart (placed (now (places .entry)) (map wantedOf (wishes w (items (now (list .entry))))))) 26 ⌝ }
 {
     let n = places.len();
@@ -141,6 +142,10 @@ fn pairs_refusal(w: NewExtents, list: &[u8], places: &[u64]) -> u8
     }
     if n <= 65536 {
         return many_refusal(w, list, places);
+    }
+    let why = pairs_refusal(w, list, &places[..n / 2]);
+    if why != 0 {
+        return why;
     }
     plain_refusal(w, list, places)
 }

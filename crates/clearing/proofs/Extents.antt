@@ -1,15 +1,20 @@
 -- The adds' extents copied as pairs, and what their order says. Assumes nothing.
 use mathlib.Core.Path.{_≡_, refl, ap, _∙_, sym}
-use mathlib.Core.Bool.{Bool, true, false, _&&_, _||_}
+use mathlib.Core.Bool.{Bool, true, false, _&&_, _||_, false≢true}
 use mathlib.Core.List.{List, [], _∷_, _++_}
-use Prim.Native.Nat.{ℕ, _+_, _*_, _/_, _≤_, _<_}
+use Prim.Native.Nat.{ℕ, zero, suc, _+_, _*_, _/_, _≤_, _<_}
 use native.Mathlib.Omega.{arith}
+use native.Mathlib.Nat.{mul-div-cancel}
 use lib.Dec.{leb}
-use lib.ListN.{length, getD, drop, take, length-drop}
-use Rattle.records.specs.Stages.{pairs}
-use Rattle.records.proofs.Lists.{pairs-mapped}
+use lib.ListN.{length, getD, drop, take}
+use lib.Seq.{length-take-le}
+use Rattle.records.specs.Records.{records}
+use Rattle.records.specs.Stages.{every, pairs}
+use Rattle.records.proofs.Tests.{both, both-left, both-right, never}
+use Rattle.records.proofs.Lists.{every-take}
 use Rattle.records.proofs.Loops.{records-length, records-cons, records-nil}
 use Rattle.cut.specs.Refs.{Ref}
+use Rattle.segment.proofs.Spans.{chunks-cut, chunks-take}
 use Rattle.plan.specs.Plans.{Add}
 use Rattle.plan.specs.Places.{clear, placesApart}
 use Rattle.plan.specs.Outputs.{refNumbers}
@@ -75,3 +80,35 @@ module _ (s out : List ℕ) (m : ℕ) (out′ : List ℕ) (h : Laid extentNumber
   copied-apart =
       extents-apart (addsIn s) out m out′ h (omega (arith, records-length addOf 3 s))
       ∙ ap (λ (p : Add → Add → Bool). pairs p (addsIn s)) (λ i a b. turned a b i)
+
+-- ---- the first half
+
+half-fits : (s : List ℕ) → length s / 3 / 2 * 3 ≤ length s
+half-fits s = omega arith
+
+pub half-long : (s : List ℕ) → length (take (length s / 3 / 2 * 3) s) ≡ length s / 3 / 2 * 3
+half-long s = length-take-le (length s / 3 / 2 * 3) s (half-fits s)
+
+own : (s : List ℕ) → addOf (take 3 s) ≡ addOf s
+unfolding addOf
+own [] = refl
+own (a ∷ []) = refl
+own (a ∷ (b ∷ [])) = refl
+own (a ∷ (b ∷ (c ∷ s))) = refl
+
+half-adds : (s : List ℕ) → addsIn (take (length s / 3 / 2 * 3) s) ≡ take (length s / 3 / 2) (addsIn s)
+unfolding records
+half-adds s =
+    let h : ℕ = length s / 3 / 2 in
+    let n : length (take (h * 3) s) / 3 ≡ h = rw (half-long s) (mul-div-cancel h (omega arith)) in
+    rw n (chunks-cut addOf 3 own h (h * 3) s (omega arith) ∙ sym (chunks-take addOf 3 h (length s / 3) s (omega arith)))
+
+pairs-take : (p : Add → Add → Bool) (k : ℕ) (l : List Add) → pairs p l ≡ true → pairs p (take k l) ≡ true
+unfolding pairs
+pairs-take p zero l h = refl
+pairs-take p (suc k) [] h = refl
+pairs-take p (suc k) (a ∷ l) h = both (every (p a) (take k l)) (pairs p (take k l)) (every-take (p a) k l (both-left (every (p a) l) (pairs p l) h)) (pairs-take p k l (both-right (every (p a) l) (pairs p l) h))
+
+-- if it does not pass, all do not
+pub half-refused : (s : List ℕ) (b : Bool) → b ≡ pairs addsApart (addsIn (take (length s / 3 / 2 * 3) s)) → b ≡ false → false ≡ pairs addsApart (addsIn s)
+half-refused s b e z = sym (never (pairs addsApart (addsIn s)) (λ q. false≢true (sym z ∙ e ∙ ap (pairs addsApart) (half-adds s) ∙ pairs-take addsApart (length s / 3 / 2) (addsIn s) q)))

@@ -8,7 +8,7 @@ use Rattle.table.specs.Rows.{rows}
 use Rattle.plan.specs.Places.{placed, placeSound}
 use Rattle.holes.specs.Walk.{wishes}
 use Rattle.adds.specs.Wishes.{wantedOf}
-use Rattle.adds.proofs.Ahead.{Testing, testing-all, testing-turn, testing-stop, testing-done, every-cons, every-none}
+use Rattle.adds.proofs.Ahead.{enough, Testing, testing-all, testing-turn, testing-stop, testing-done, every-cons, every-none}
 use Rattle.adds.proofs.each_refusal.Statement.{statement}
 use Rattle.adds.proofs.each_refusal.Tie as tie
 
@@ -22,7 +22,7 @@ walk-start-requires : tie.Need-walk-start-requires Inv-loop μ-loop
 walk-start-requires c κs = search needs
 
 loop-holds : tie.Need-loop-holds Inv-loop μ-loop
-loop-holds c = testing-all _ _ _ _ _ (c .walk-start .ensures) (c .before .before .before .before .pre .2)
+loop-holds c = testing-all _ _ _ _ _ (c .walk-start .ensures) (enough _ _ (c .before .before .before .before .pre .2))
 
 next-piece-requires : tie.Need-next-piece-requires Inv-loop μ-loop
 next-piece-requires c κs = c .before .before .before .before .before .before .pre .0

@@ -4,7 +4,7 @@ use native.Mathlib.Omega.{arith}
 use borrow.Author.Needs.{needs}
 use Rattle.item.specs.Items.{items}
 use Rattle.plan.specs.Outputs.{addNumbers}
-use Rattle.adds.proofs.Ahead.{Adding, adding-all, adding-room, adding-turn, adding-done, adding-length}
+use Rattle.adds.proofs.Ahead.{enough, Adding, adding-all, adding-room, adding-turn, adding-done, adding-length}
 use Rattle.adds.proofs.put_adds.Statement.{statement}
 use Rattle.adds.proofs.put_adds.Tie as tie
 
@@ -18,7 +18,7 @@ walk-start-requires : tie.Need-walk-start-requires Inv-loop μ-loop
 walk-start-requires c κs = search needs
 
 loop-holds : tie.Need-loop-holds Inv-loop μ-loop
-loop-holds c = adding-all _ _ _ addNumbers 3 _ _ (c .walk-start .ensures) (c .before .before .before .before .pre .1)
+loop-holds c = adding-all _ _ _ addNumbers 3 _ _ (c .walk-start .ensures) (enough _ _ (c .before .before .before .before .pre .1))
 
 next-piece-requires : tie.Need-next-piece-requires Inv-loop μ-loop
 next-piece-requires c κs = c .before .before .before .before .before .before .pre .0
