@@ -14,7 +14,7 @@ ghost use lib.ListN.{length};
 ghost use Rattle.item.specs.Items.{fields, items};
 ghost use Rattle.lists.specs.Lists.{rangeSound};
 ghost use Rattle.cut.specs.Mappings.{holds};
-ghost use Rattle.segment.specs.Segments.{itemAt, Good, Around};
+ghost use Rattle.segment.specs.Segments.{itemAt, Runs, Good, Around};
 ghost use Rattle.refs.specs.Drops.{held};
 ghost use Rattle.changing.specs.Raw.{Parting, PutIf, JoinedIf, Made, Ready, partItem, newItem};
 ghost use Rattle.changing.specs.Sides.{frontNew, backNew, joinedPieces, afterPieces};
@@ -26,7 +26,7 @@ pub struct Parts {
 }
 
 pub fn parts_of(c: RangeChange, list: &[u8], shared: &[u8]) -> Parts
-    requires { ⌜ length (now shared) ≡ length (items (now list)) ⌝ }
+    requires { ⌜ (length (now shared) ≡ length (items (now list))) × Runs 0 (items (now list)) ⌝ }
     ensures { λ r. ⌜ Parting (held (items (now (list .entry))) (now (shared .entry))) c r ⌝ }
 {
     Parts {

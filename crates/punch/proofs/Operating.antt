@@ -9,7 +9,7 @@ use lib.Dec.{eqb, leb, ltb}
 use lib.ListN.{length}
 use borrow.Author.Tests.{eqb-true, leb-true, ltb-true}
 use Rattle.records.specs.Stages.{unless, first, firstOf, stage, every}
-use Rattle.records.proofs.Tests.{both-left, first-assoc, first-last, first-zero, firstOf-zero, unless-zero, ltb-suc}
+use Rattle.records.proofs.Tests.{both-left, first-stop, first-go, first-assoc, first-last, first-zero, firstOf-zero, unless-zero, ltb-suc}
 use Rattle.item.specs.Items.{items}
 use Rattle.table.specs.Rows.{rows}
 use Rattle.lists.specs.Lists.{recordRefusal}
@@ -19,6 +19,8 @@ use Rattle.request.specs.declared.Range.{Range}
 use Rattle.request.specs.Lent.{lent, listBroken, tableBroken}
 use Rattle.request.specs.Answers.{Outcome, nothing, refused}
 use Rattle.request.proofs.Stages.{Accepted, accepted}
+use Rattle.segment.specs.Segments.{Runs}
+use Rattle.segment.proofs.Segments.{kept-runs}
 use Rattle.plan.specs.Plans.{Plan, refusedOr, orNothing}
 use Rattle.plan.specs.Outputs.{Rooms}
 use Rattle.change.specs.declared.RangeChange.{RangeChange}
@@ -51,22 +53,25 @@ passes zero o z = refl
 passes (suc x) o z = absurd (omega (arith, z))
 
 module _ (v : Volume) (f : File) (r : Range) (list shared table : List ℕ) where
-  -- the stages as the code groups them
-  pub range-told :
-      (a b c d x y why : ℕ) (t : Bool)
-      → a ≡ lent v f list shared table
-      → b ≡ unless (not (eqb (r .length) 0)) 5
-      → t ≡ leb (r .offset + r .length) 9223372036854775807
-      → c ≡ unless t 6
-      → d ≡ stage recordRefusal (items list)
-      → x ≡ first c d
-      → y ≡ first b x
-      → why ≡ first a y
-      → why ≡ rangeLent v f r list shared table
-  unfolding rangeRefusal firstOf
-  range-told a b c d x y why t pa pb pt pc pd px py pw =
-      let l : ltb (r .offset + r .length) (2 ^ 63) ≡ leb (r .offset + r .length) 9223372036854775807 = ltb-suc (r .offset + r .length) 9223372036854775807 in
-      rw (pw, py, px, pa, pb, pc, pt, pd, l, first-last) (simp first-assoc)
+  -- the stages as the code groups them: 7 to 9 come last
+  module _ (a b c x y : ℕ) (t : Bool)
+      (pa : a ≡ lent v f list shared table)
+      (pb : b ≡ unless (not (eqb (r .length) 0)) 5)
+      (pt : t ≡ leb (r .offset + r .length) 9223372036854775807)
+      (pc : c ≡ unless t 6)
+      (px : x ≡ first b c)
+      (py : y ≡ first a x) where
+    range-whole : first y (stage recordRefusal (items list)) ≡ rangeLent v f r list shared table
+    unfolding rangeRefusal firstOf
+    range-whole =
+        let l : ltb (r .offset + r .length) (2 ^ 63) ≡ leb (r .offset + r .length) 9223372036854775807 = ltb-suc (r .offset + r .length) 9223372036854775807 in
+        rw (py, px, pa, pb, pc, pt, l, first-last) (simp first-assoc)
+
+    pub range-stop : (y ≡ 0 → ⊥) → y ≡ rangeLent v f r list shared table
+    range-stop n = first-stop y (stage recordRefusal (items list)) n ∙ range-whole
+
+    pub range-go : y ≡ 0 → (d : ℕ) → d ≡ stage recordRefusal (items list) → d ≡ rangeLent v f r list shared table
+    range-go z d e = e ∙ sym (first-go y (stage recordRefusal (items list)) z) ∙ range-whole
 
   -- what passes them
   pub record Passed : Type 0 where
@@ -86,6 +91,10 @@ module _ (v : Volume) (f : File) (r : Range) (list shared table : List ℕ) wher
 
   pub shares-many : Passed → length shared ≡ length (items list)
   shares-many p = eqb-true (length shared) (length (items list)) (both-left (eqb (length shared) (length (items list))) (every (λ (b : ℕ). leb b 1) shared) (p .accepted .shares))
+
+  -- the records run one behind the other
+  pub runs-now : Passed → Runs 0 (items list)
+  runs-now p = kept-runs (f .number) (items list) (p .accepted .kept) (records-ranged (items list) (p .records))
 
   -- a change that fills no hole
   pub no-holes : (c : RangeChange) (w : Fill) → w ≡ record { from = 0; to = 0; size = f .size } → filledOf c w (items list) ≡ changeOf c (f .size)

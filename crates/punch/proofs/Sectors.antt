@@ -1,6 +1,6 @@
 -- What the code says of a punch's sectors is what the definitions say. Assumes nothing.
 use mathlib.Core.Path.{_≡_, refl, ap, _∙_, sym}
-use mathlib.Core.Bool.{Bool, true, false, cond, _&&_, not}
+use mathlib.Core.Bool.{Bool, true, false, cond, _&&_, not, and-assoc}
 use mathlib.Core.List.{List, [], _∷_}
 use mathlib.Core.Option.{none, some}
 use Prim.Native.Nat.{ℕ, _+_, _-_, _<_, _^_}
@@ -47,6 +47,13 @@ found-held o fs shared h l e =
     go true = refl
     go false = refl
 
+-- or, where it is not asked, none
+pub asked-held : (asked b h : Bool) → asked ≡ true → b ≡ h → b ≡ (asked && h)
+asked-held asked b h t e = rw t e
+
+pub unasked-held : (asked h : Bool) → asked ≡ false → false ≡ (asked && h)
+unasked-held asked h t = rw t refl
+
 -- inside one sector
 pub one-sector : (s x stop d e : ℕ) (b : Bool) → d ≡ roundDown s x → e ≡ roundDown s (stop - 1) → b ≡ (eqb d e && ltb (stop - x) s) → b ≡ inOneSector s x stop
 one-sector s x stop d e b pd pe pb = rw (pb, pd, pe) refl
@@ -64,9 +71,9 @@ module _ (size s x stop d up : ℕ) (pd : d ≡ roundDown s x) (pu : up ≡ roun
       go true = refl
       go false = refl
 
-  pub across-is : (fs : List Fields) (last up′ lo hi : ℕ) (front back h inner : Bool)
-      → last ≡ roundDown s stop → up′ ≡ roundUp s x → h ≡ heldBy (holder last fs)
-      → front ≡ (not (eqb d x) && ltb x up) → inner ≡ (ltb stop up && h) → back ≡ (not (eqb last stop) && inner)
+  pub across-is : (fs : List Fields) (last up′ lo hi : ℕ) (front back partly : Bool)
+      → last ≡ roundDown s stop → up′ ≡ roundUp s x
+      → front ≡ (not (eqb d x) && ltb x up) → partly ≡ (not (eqb last stop) && ltb stop up) → back ≡ (partly && heldBy (holder last fs))
       → lo ≡ cond front d up′ → hi ≡ cond back (last + s) last
       → changeOf
       (record {
@@ -79,7 +86,9 @@ module _ (size s x stop d up : ℕ) (pd : d ≡ roundDown s x) (pu : up ≡ roun
       })
       size
       ≡ acrossSectors fs size s x stop
-  across-is fs last up′ lo hi front back h inner pl pv ph pf pi pb po pt = rw (po, pt, pf, pb, pi, ph, pl, pv, pd, pu) refl
+  across-is fs last up′ lo hi front back partly pl pv pf pp pb po pt =
+      let e : back ≡ (not (eqb last stop) && (ltb stop up && heldBy (holder last fs))) = pb ∙ ap (λ (t : Bool). t && heldBy (holder last fs)) pp ∙ and-assoc (not (eqb last stop)) (ltb stop up) (heldBy (holder last fs)) in
+      rw (po, pt, pf, e, pl, pv, pd, pu) refl
 
 -- the change, by whether the range lies inside one sector
 pub change-is : (fs : List Fields) (size s x stop : ℕ) (b t : Bool) (c : Change) → b ≡ inOneSector s x stop → b ≡ t

@@ -1,17 +1,16 @@
 -- What the structs and private functions of this crate say, in the terms of the definitions.
-use mathlib.Core.Bool.{cond, _&&_, not}
+use mathlib.Core.Bool.{cond}
 use mathlib.Core.List.{List}
 use mathlib.Core.Option.{Option, none, some}
-use Prim.Native.Nat.{ℕ, max}
-use lib.Dec.{ltb}
+use Prim.Native.Nat.{ℕ}
 use Rattle.records.specs.Stages.{first}
-use Rattle.item.specs.Items.{Fields, items, hole, end}
+use Rattle.item.specs.Items.{items}
 use Rattle.table.specs.Rows.{rows}
 use Rattle.request.specs.declared.Volume.{Volume}
 use Rattle.request.specs.declared.File.{File}
 use Rattle.request.specs.declared.Range.{Range}
 use Rattle.request.specs.Lent.{listBroken, tableBroken}
-use Rattle.punch_plan.specs.Punch.{lower, rangeRefusal}
+use Rattle.punch_plan.specs.Punch.{rangeRefusal}
 use Rattle.change.specs.Changes.{Change, changeOf}
 use Rattle.punch.specs.declared.Start.{Start}
 use Rattle.punch.specs.declared.PunchPlan.{PunchPlan}
@@ -20,10 +19,6 @@ use Rattle.punch.specs.declared.PunchPlan.the-variants as plan
 -- an offset, or none
 abbrev pub offsetIn : Start → Option ℕ
 offsetIn s = cond (s .found) (some (s .at)) none
-
--- one more item, before those that an offset was found in
-abbrev pub withItem : ℕ → Fields → Option ℕ → Option ℕ
-withItem offset f s = cond (not (hole f) && ltb offset (end f)) (lower s (max (f .key) offset)) s
 
 -- a change of a file of this size, or none
 abbrev pub planIn : PunchPlan → (size : ℕ) → Option Change

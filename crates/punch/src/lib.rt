@@ -1,27 +1,27 @@
 // A punch: where it starts, which sectors it cuts and rewrites (`plan_punch`), and the operation, `punch_hole`.
 use change::RangeChange;
 use change::Rewrite;
-use item::Item;
 use records::both;
 use records::first;
 use records::sum_at_most;
-use records::sum_past;
 use records::unless;
 use request::Answer;
 use request::File;
 use request::Range;
 use request::Volume;
-ghost use mathlib.Core.Bool.{true};
+ghost use mathlib.Core.Bool.{true, _&&_};
 ghost use mathlib.Core.List.{[]};
 ghost use mathlib.Core.Path.{_≡_};
 ghost use Prim.Native.Nat.{_+_, _<_, _^_};
 ghost use lib.ListN.{length};
-ghost use Rattle.item.specs.Items.{fields, items};
+ghost use Rattle.item.specs.Items.{items};
+ghost use Rattle.cut.specs.Mappings.{holder};
+ghost use Rattle.segment.specs.Segments.{Runs};
 ghost use Rattle.request.specs.Lent.{sectorSound};
 ghost use Rattle.plan.specs.Outputs.{outs, roomsOf, Met};
 ghost use Rattle.change.specs.Changes.{changeOf};
-ghost use Rattle.punch_plan.specs.Punch.{lower, firstHeld, inOneSector, withinSector, acrossSectors, punchChange, planPunch, punchLent};
-ghost use Rattle.punch.specs.Raw.{offsetIn, withItem, planIn, rangeLent};
+ghost use Rattle.punch_plan.specs.Punch.{firstHeld, heldBy, inOneSector, withinSector, acrossSectors, punchChange, planPunch, punchLent};
+ghost use Rattle.punch.specs.Raw.{offsetIn, planIn, rangeLent};
 
 // An offset of the file, if there is one.
 pub struct Start {
@@ -29,45 +29,26 @@ pub struct Start {
     pub at: u64,
 }
 
-// The lower of an offset and another.
-fn lower(start: Start, x: u64) -> Start
-    ensures { λ r. ⌜ offsetIn r ≡ lower (offsetIn start) x ⌝ }
-{
-    if both(start.found, start.at <= x) {
-        start
-    } else {
-        Start { found: true, at: x }
-    }
-}
-
-// One more item, before those that `start` was found in.
-fn with_item(start: Start, offset: u64, item: Item) -> Start
-    ensures { λ r. ⌜ offsetIn r ≡ withItem offset (fields item) (offsetIn start) ⌝ }
-{
-    if both(
-        !cut::is_hole(item),
-        sum_past(item.key, item.length(), offset),
-    ) {
-        lower(start, records::larger(item.key, offset))
-    } else {
-        start
-    }
-}
-
-// The first offset at or past `offset` that an item holds which is no hole; from the last record to the first.
+// The first offset at or past `offset` that an item holds which is no hole: of records that run one behind the other, in the
+// first that is no hole among those that end past it.
 fn first_held(list: &[u8], offset: u64) -> Start
+    requires { ⌜ Runs 0 (items (now list)) ⌝ }
     ensures { λ r. ⌜ offsetIn r ≡ firstHeld offset (items (now (list .entry))) ⌝ }
 {
-    let mut start = Start {
+    let from = segment::ending_by(list, offset);
+    for i in from..list.len() / 70 {
+        let item = segment::record_at(list, i);
+        if !cut::is_hole(item) {
+            return Start {
+                found: true,
+                at: records::larger(item.key, offset),
+            };
+        }
+    }
+    Start {
         found: false,
         at: 0,
-    };
-    let mut i = list.len() / 70;
-    while 0 < i {
-        i -= 1;
-        start = with_item(start, offset, item::item_at(list, i));
     }
-    start
 }
 
 // Whether a range lies inside one sector, and is not the whole of it.
@@ -113,6 +94,17 @@ fn within_sector(size: u64, sector: u64, start: u64, stop: u64) -> RangeChange
     }
 }
 
+// Whether an item holds an offset, if it is asked.
+fn held_if(asked: bool, o: u64, list: &[u8], shared: &[u8]) -> bool
+    requires { ⌜ (length (now shared) ≡ length (items (now list))) × Runs 0 (items (now list)) ⌝ }
+    ensures { λ r. ⌜ r ≡ (asked && heldBy (holder o (items (now (list .entry))))) ⌝ }
+{
+    if !asked {
+        return false;
+    }
+    rewrites::holding_item(o, list, shared).found
+}
+
 // What is cut and rewritten of any other range.
 fn across_sectors(
     list: &[u8],
@@ -122,15 +114,14 @@ fn across_sectors(
     start: u64,
     stop: u64,
 ) -> RangeChange
-    requires { ⌜ (sectorSound sector ≡ true) × (size < 2 ^ 63) × (start < stop) × (stop < 2 ^ 63) × (length (now shared) ≡ length (items (now list))) ⌝ }
+    requires { ⌜ (sectorSound sector ≡ true) × (size < 2 ^ 63) × (start < stop) × (stop < 2 ^ 63) × (length (now shared) ≡ length (items (now list))) × Runs 0 (items (now list)) ⌝ }
     ensures { λ r. ⌜ changeOf r size ≡ acrossSectors (items (now (list .entry))) size sector start stop ⌝ }
 {
     let first = change::round_down(sector, start);
     let last = change::round_down(sector, stop);
     let limit = change::round_up(sector, size);
-    let held = rewrites::holding_item(last, list, shared).found;
     let has_front = both(first != start, start < limit);
-    let has_back = both(last != stop, both(stop < limit, held));
+    let has_back = held_if(both(last != stop, stop < limit), last, list, shared);
     RangeChange {
         lo: records::pick(has_front, first, change::round_up(sector, start)),
         hi: records::pick(has_back, last + sector, last),
@@ -158,7 +149,7 @@ fn sectors_of(
     start: u64,
     stop: u64,
 ) -> RangeChange
-    requires { ⌜ (sectorSound sector ≡ true) × (size < 2 ^ 63) × (start < stop) × (stop < 2 ^ 63) × (length (now shared) ≡ length (items (now list))) ⌝ }
+    requires { ⌜ (sectorSound sector ≡ true) × (size < 2 ^ 63) × (start < stop) × (stop < 2 ^ 63) × (length (now shared) ≡ length (items (now list))) × Runs 0 (items (now list)) ⌝ }
     ensures { λ r. ⌜ changeOf r size ≡ punchChange (items (now (list .entry))) size sector start stop ⌝ }
 {
     if in_one_sector(sector, start, stop) {
@@ -183,7 +174,7 @@ fn plan_punch(
     offset: u64,
     stop: u64,
 ) -> PunchPlan
-    requires { ⌜ (sectorSound sector ≡ true) × (size < 2 ^ 63) × (stop < 2 ^ 63) × (length (now shared) ≡ length (items (now list))) ⌝ }
+    requires { ⌜ (sectorSound sector ≡ true) × (size < 2 ^ 63) × (stop < 2 ^ 63) × (length (now shared) ≡ length (items (now list))) × Runs 0 (items (now list)) ⌝ }
     ensures { λ r. ⌜ planIn r size ≡ planPunch (items (now (list .entry))) size sector offset stop ⌝ }
 {
     let start = first_held(list, offset);
@@ -203,7 +194,11 @@ pub fn range_refusal(v: Volume, f: File, r: Range, list: &[u8], shared: &[u8], t
     let lent = request::lent_refusal(v, f, list, shared, table);
     let empty = unless(r.length != 0, 5);
     let far = unless(sum_at_most(r.offset, r.length, 9223372036854775807), 6);
-    first(lent, first(empty, first(far, lists::records_refusal(list))))
+    let broken = first(lent, first(empty, far));
+    if broken != 0 {
+        return broken;
+    }
+    lists::records_refusal(list)
 }
 
 // A punch of a hole into a file: the answer, and the plan in the six outputs. Any bytes may be lent.

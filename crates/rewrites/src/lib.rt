@@ -17,6 +17,7 @@ ghost use Rattle.records.specs.Select.{only};
 ghost use Rattle.item.specs.Items.{fields, items, writtenInPlace};
 ghost use Rattle.cut.specs.Mappings.{holds};
 ghost use Rattle.cut.specs.Refs.{naming};
+ghost use Rattle.segment.specs.Segments.{Runs};
 ghost use Rattle.refs.specs.Drops.{held};
 ghost use Rattle.plan.specs.Outputs.{writeNumbers};
 ghost use Rattle.lines.specs.Lines.{Laid};
@@ -43,27 +44,35 @@ pub fn is_holding(o: u64, item: Item) -> bool
     )
 }
 
-// The port's `holding_item`.
-pub fn holding_item(o: u64, list: &[u8], shared: &[u8]) -> Holder
-    requires { ⌜ length (now shared) ≡ length (items (now list)) ⌝ }
-    ensures { λ r. ⌜ holderIn r ≡ holderOf o (held (items (now (list .entry))) (now (shared .entry))) ⌝ }
+// No item.
+fn no_holder() -> Holder
+    ensures { λ r. ⌜ holderIn r ≡ none ⌝ }
 {
-    let n = list.len() / 70;
-    for i in 0..n {
-        let item = item::item_at(list, i);
-        if is_holding(o, item) {
-            return Holder {
-                found: true,
-                item,
-                shared: shared[i],
-            };
-        }
-    }
     Holder {
         found: false,
         item: Item::regular_extent_item(0, 0, 0, 0, 0),
         shared: 0,
     }
+}
+
+// The port's `holding_item`: of records that run one behind the other only the first that ends past the offset can hold it.
+pub fn holding_item(o: u64, list: &[u8], shared: &[u8]) -> Holder
+    requires { ⌜ (length (now shared) ≡ length (items (now list))) × Runs 0 (items (now list)) ⌝ }
+    ensures { λ r. ⌜ holderIn r ≡ holderOf o (held (items (now (list .entry))) (now (shared .entry))) ⌝ }
+{
+    let i = segment::ending_by(list, o);
+    if list.len() / 70 <= i {
+        return no_holder();
+    }
+    let item = segment::record_at(list, i);
+    if is_holding(o, item) {
+        return Holder {
+            found: true,
+            item,
+            shared: shared[i],
+        };
+    }
+    no_holder()
 }
 
 // How many items of a list name the extent at `start`.
@@ -132,13 +141,16 @@ pub fn rewrite_refusal(
 
 // The preallocated item that holds a sector, if there is one and the sector is to be rewritten: it is then written in place.
 pub fn preallocated(has: bool, r: Rewrite, list: &[u8], shared: &[u8]) -> Holder
-    requires { ⌜ length (now shared) ≡ length (items (now list)) ⌝ }
+    requires { ⌜ (length (now shared) ≡ length (items (now list))) × Runs 0 (items (now list)) ⌝ }
     ensures { λ h. ⌜ holderIn h ≡ cond has (preallocatedIn (held (items (now (list .entry))) (now (shared .entry))) r) none ⌝ }
 {
+    if !has {
+        return no_holder();
+    }
     let h = holding_item(r.sector, list, shared);
     let item = h.item;
     Holder {
-        found: both(has, both(h.found, item.kind() == 2)),
+        found: both(h.found, item.kind() == 2),
         item,
         shared: h.shared,
     }

@@ -1,44 +1,50 @@
-use denote.Ref.{now}
-use Rattle.punch.proofs.Starting.{start-turn, start-first}
-use Rattle.punch.specs.Raw.{offsetIn}
-use Rattle.punch_plan.specs.Punch.{firstHeld}
-use Rattle.item.proofs.Laws.{item-decode, rest-items}
-use Rattle.item.specs.Items.{decode}
-use Rattle.records.proofs.Loops.{rest}
+use Prim.Native.Nat.{_-_, _/_}
 use borrow.Author.Needs.{needs}
-use lib.ListN.{length}
-use Prim.Native.Nat.{_/_, _≤_}
-use mathlib.Core.Path.{_≡_, _∙_, ap}
+use lib.ListN.{length, drop}
+use borrow.Author.Tests.{not-true, not-false}
+use Rattle.item.specs.Items.{items}
+use Rattle.item.proofs.Laws.{items-length}
+use Rattle.punch.proofs.Starting.{Left, left-first, start-turn, start-stop, start-none}
+use denote.Ref.{now}
 use native.Mathlib.Omega.{arith}
 use Rattle.punch.proofs.first_held.Statement.{statement}
 use Rattle.punch.proofs.first_held.Tie as tie
 
 abbrev Inv-loop : tie.InvT-loop
-Inv-loop list offset start₀ i₀ start i = (i ≤ length list / 70) × (offsetIn start ≡ firstHeld offset (rest decode 70 list (length list / 70) i))
+Inv-loop list offset from i₀ i-end i = Left offset (items list) (drop i (items list))
 
 abbrev μ-loop : tie.MeasureT-loop
-μ-loop list offset start₀ i₀ start i = i
+μ-loop list offset from i₀ i-end i = length list / 70 - i
+
+ending-by-requires : tie.Need-ending-by-requires Inv-loop μ-loop
+ending-by-requires c κs = search needs
 
 loop-holds : tie.Need-loop-holds Inv-loop μ-loop
-loop-holds c = (omega arith, start-first _ _ _)
+loop-holds c = let a = c .before .before .args in rw (c .ending-by .ensures) (left-first (a .offset) 0 (items (now (a .list))) (c .before .before .pre))
 
-sub-i : tie.Need-sub-i Inv-loop μ-loop
-sub-i c = omega arith
+record-at-requires : tie.Need-record-at-requires Inv-loop μ-loop
+record-at-requires c κs = let a = c .before .before .before .before .args in omega (arith, items-length (now (a .list)))
 
-item-at-requires : tie.Need-item-at-requires Inv-loop μ-loop
-item-at-requires c κs = omega arith
+is-hole-requires : tie.Need-is-hole-requires Inv-loop μ-loop
+is-hole-requires c κs = search needs
 
-with-item-requires : tie.Need-with-item-requires Inv-loop μ-loop
-with-item-requires c κs = search needs
+larger-requires : tie.Need-larger-requires Inv-loop μ-loop
+larger-requires c κs = search needs
+
+returns : tie.Need-returns Inv-loop μ-loop
+returns c = let a = c .before .before .before .before .before .before .before .before .args in start-stop (a .offset) (items (now (a .list))) _ _ _ (omega (arith, items-length (now (a .list)))) (c .before .before .before .record-at .ensures) (c .before .before .is-hole .ensures) (c .before .before .before .before .before .loop .inv) (not-true _ (c .before .if1 .taken)) _ (c .larger .ensures)
+
+add-i : tie.Need-add-i Inv-loop μ-loop
+add-i c = omega arith
 
 loop-less : tie.Need-loop-less Inv-loop μ-loop
 loop-less c = omega arith
 
 loop-again : tie.Need-loop-again Inv-loop μ-loop
-loop-again c = let a = c .before .before .before .before .before .args in let l = c .before .before .before .loop in (omega arith, start-turn (a .offset) (now (a .list)) _ (l .i) _ _ _ (omega arith) (omega arith) (item-decode _ _ (c .before .item-at .ensures)) (l .inv .1) (c .with-item .ensures))
+loop-again c = let a = c .before .before .before .before .before .before .before .args in start-turn (a .offset) (items (now (a .list))) _ _ _ (omega (arith, items-length (now (a .list)))) (c .before .before .record-at .ensures) (c .before .is-hole .ensures) (c .before .before .before .before .loop .inv) (not-false _ (c .if1 .left))
 
-returns : tie.Need-returns Inv-loop μ-loop
-returns c = let a = c .before .before .before .args in let l = c .before .loop in l .inv .1 ∙ ap (firstHeld (a .offset)) (ap (rest decode 70 (now (a .list)) (length (now (a .list)) / 70)) (omega arith) ∙ rest-items (now (a .list)))
+returns-2 : tie.Need-returns-2 Inv-loop μ-loop
+returns-2 c = let a = c .before .before .before .before .args in start-none (a .offset) (items (now (a .list))) (c .before .loop .i) (omega (arith, items-length (now (a .list)))) (c .before .loop .inv)
 
 pub first-held-spec : {M : Type 1} → statement M
 first-held-spec =
@@ -46,10 +52,13 @@ first-held-spec =
     (tie.spec
     Inv-loop
     μ-loop
+    ending-by-requires
     loop-holds
-    sub-i
-    item-at-requires
-    with-item-requires
+    record-at-requires
+    is-hole-requires
+    larger-requires
+    returns
+    add-i
     loop-less
     loop-again
-    returns)
+    returns-2)

@@ -6,13 +6,13 @@ use Rattle.punch.proofs.plan_punch.Statement.{statement}
 use Rattle.punch.proofs.plan_punch.Tie as tie
 
 first-held-requires : tie.Need-first-held-requires
-first-held-requires c κs = search needs
+first-held-requires c κs = c .before .before .pre .4
 
 both-requires : tie.Need-both-requires
 both-requires c κs = search needs
 
 sectors-of-requires : tie.Need-sectors-of-requires
-sectors-of-requires c κs = let a = c .before .before .before .before .before .before .args in let p = c .before .before .before .before .before .before .pre in (p .0, p .1, plan-before (items (now (a .list))) (a .size) (a .sector) (a .offset) (a .stop) (c .before .before .before .first-held .result) _ (c .before .before .before .first-held .ensures) (c .before .both .ensures) (c .if1 .taken), p .2, p .3)
+sectors-of-requires c κs = let a = c .before .before .before .before .before .before .args in let p = c .before .before .before .before .before .before .pre in (p .0, p .1, plan-before (items (now (a .list))) (a .size) (a .sector) (a .offset) (a .stop) (c .before .before .before .first-held .result) _ (c .before .before .before .first-held .ensures) (c .before .both .ensures) (c .if1 .taken), p .2, p .3, p .4)
 
 returns : tie.Need-returns
 returns c = let a = c .before .before .before .before .before .before .before .args in plan-some (items (now (a .list))) (a .size) (a .sector) (a .offset) (a .stop) (c .before .before .before .before .first-held .result) _ (c .before .before .before .before .first-held .ensures) (c .before .before .both .ensures) (c .before .if1 .taken) _ (c .sectors-of .ensures)

@@ -1,5 +1,5 @@
 use denote.Ref.{now}
-use Rattle.punch.proofs.Operating.{passed, shares-many, asked-now, punch-refused, punch-nothing, punch-changed}
+use Rattle.punch.proofs.Operating.{passed, shares-many, runs-now, asked-now, punch-refused, punch-nothing, punch-changed}
 use Rattle.laying.proofs.Outputs.{met-refused, met-nothing}
 use Rattle.punch.specs.Raw.{planIn}
 use Rattle.punch.specs.declared.PunchPlan.{PunchPlan}
@@ -30,7 +30,7 @@ add-plan-punch c = let a = c .before .before .before .before .before .before .be
 
 -- src/lib.rt:231:9
 plan-punch-requires : tie.Need-plan-punch-requires
-plan-punch-requires c κs = let a = c .before .before .before .before .before .before .before .before .before .before .before .before .before .args in let q = passed (a .v) (a .f) (a .r) (now (a .list)) (now (a .shared)) (now (a .table)) (sym (c .before .before .range-refusal .ensures) ∙ c .before .if1 .left) in (q .accepted .sector, ltb-true _ _ (q .accepted .size), q .limit, shares-many (a .v) (a .f) (a .r) (now (a .list)) (now (a .shared)) (now (a .table)) q)
+plan-punch-requires c κs = let a = c .before .before .before .before .before .before .before .before .before .before .before .before .before .args in let q = passed (a .v) (a .f) (a .r) (now (a .list)) (now (a .shared)) (now (a .table)) (sym (c .before .before .range-refusal .ensures) ∙ c .before .if1 .left) in (q .accepted .sector, ltb-true _ _ (q .accepted .size), q .limit, shares-many (a .v) (a .f) (a .r) (now (a .list)) (now (a .shared)) (now (a .table)) q, runs-now (a .v) (a .f) (a .r) (now (a .list)) (now (a .shared)) (now (a .table)) q)
 
 -- src/lib.rt:240:31
 enum-told : tie.Need-enum-told

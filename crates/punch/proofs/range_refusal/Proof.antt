@@ -1,5 +1,5 @@
-use Rattle.punch.proofs.Operating.{range-told}
 use denote.Ref.{now}
+use Rattle.punch.proofs.Operating.{range-stop, range-go}
 use borrow.Author.Needs.{needs}
 use Rattle.punch.proofs.range_refusal.Statement.{statement}
 use Rattle.punch.proofs.range_refusal.Tie as tie
@@ -16,20 +16,20 @@ sum-at-most-requires c κs = search needs
 unless-requires-2 : tie.Need-unless-requires-2
 unless-requires-2 c κs = search needs
 
-records-refusal-requires : tie.Need-records-refusal-requires
-records-refusal-requires c κs = search needs
-
 first-requires : tie.Need-first-requires
 first-requires c κs = search needs
 
 first-requires-2 : tie.Need-first-requires-2
 first-requires-2 c κs = search needs
 
-first-requires-3 : tie.Need-first-requires-3
-first-requires-3 c κs = search needs
-
 returns : tie.Need-returns
-returns c = let a = c .before .before .before .before .before .before .before .before .before .before .before .before .args in range-told (a .v) (a .f) (a .r) (now (a .list)) (now (a .shared)) (now (a .table)) _ _ _ _ _ _ _ _ (c .before .before .before .before .before .before .before .before .lent-refusal .ensures) (c .before .before .before .before .before .before .unless .ensures) (c .before .before .before .before .before .sum-at-most .ensures) (c .before .before .before .before .unless2 .ensures) (c .before .before .before .records-refusal .ensures) (c .before .before .first .ensures) (c .before .first2 .ensures) (c .first3 .ensures)
+returns c = let a = c .before .before .before .before .before .before .before .before .before .before .before .args in range-stop (a .v) (a .f) (a .r) (now (a .list)) (now (a .shared)) (now (a .table)) _ _ _ _ _ _ (c .before .before .before .before .before .before .before .lent-refusal .ensures) (c .before .before .before .before .before .unless .ensures) (c .before .before .before .before .sum-at-most .ensures) (c .before .before .before .unless2 .ensures) (c .before .before .first .ensures) (c .before .first2 .ensures) (c .if1 .taken)
+
+records-refusal-requires : tie.Need-records-refusal-requires
+records-refusal-requires c κs = search needs
+
+returns-2 : tie.Need-returns-2
+returns-2 c = let a = c .before .before .before .before .before .before .before .before .before .before .before .before .args in range-go (a .v) (a .f) (a .r) (now (a .list)) (now (a .shared)) (now (a .table)) _ _ _ _ _ _ (c .before .before .before .before .before .before .before .before .lent-refusal .ensures) (c .before .before .before .before .before .before .unless .ensures) (c .before .before .before .before .before .sum-at-most .ensures) (c .before .before .before .before .unless2 .ensures) (c .before .before .before .first .ensures) (c .before .before .first2 .ensures) (c .before .if1 .left) _ (c .records-refusal .ensures)
 
 pub range-refusal-spec : {M : Type 1} → statement M
 range-refusal-spec =
@@ -39,8 +39,8 @@ range-refusal-spec =
     unless-requires
     sum-at-most-requires
     unless-requires-2
-    records-refusal-requires
     first-requires
     first-requires-2
-    first-requires-3
-    returns)
+    returns
+    records-refusal-requires
+    returns-2)

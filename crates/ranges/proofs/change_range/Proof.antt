@@ -3,6 +3,7 @@ use Rattle.drafts.proofs.Drafting.{started, refused-told, planned-told}
 use Rattle.laying.proofs.Outputs.{met-refused}
 use Rattle.drafts.specs.Raw.{draftSaid}
 use Rattle.item.specs.Items.{items}
+use Rattle.rewrites.proofs.Holding.{sound-runs}
 use native.Mathlib.Omega.{arith}
 use mathlib.Core.Path.{_∙_, sym, ap}
 use borrow.Author.Needs.{needs}
@@ -16,7 +17,7 @@ use Rattle.ranges.proofs.finish_change.Reads as finish-change-reads
 
 -- src/lib.rt:334:9
 parts-of-requires : tie.Need-parts-of-requires
-parts-of-requires c κs = search needs
+parts-of-requires c κs = let a = c .before .before .before .before .before .before .before .before .before .before .args in let q = c .before .before .before .before .before .before .before .before .before .before .pre in (q .shares, sound-runs (a .v) (a .f) (now (a .list)) (now (a .shared)) (now (a .table)) (q .fair .sound) (q .shares))
 
 -- src/lib.rt:335:9
 draft-change-requires : tie.Need-draft-change-requires

@@ -1,67 +1,49 @@
-use Rattle.refs.proofs.Helds.{heldRest, held-all}
+use mathlib.Core.Path.{_∙_}
 use denote.Ref.{now}
-use mathlib.Core.Path.{refl}
-use Rattle.rewrites.proofs.Holding.{holder-stop, holder-turn, holder-done}
-use Rattle.change.specs.Rewrites.{holderOf}
-use Rattle.refs.specs.Drops.{held}
-use Rattle.item.proofs.Laws.{item-decode, items-length}
-use Rattle.item.specs.Items.{items}
-use borrow.Author.Needs.{needs}
-use Prim.Native.Nat.{_-_, _≤_}
-use mathlib.Core.Path.{_≡_, _∙_}
 use native.Mathlib.Omega.{arith}
+use Rattle.item.proofs.Laws.{items-length}
+use Rattle.rewrites.proofs.Holding.{holder-none, holder-stop, holder-free}
+use borrow.Author.Needs.{needs}
 use Rattle.rewrites.proofs.holding_item.Statement.{statement}
 use Rattle.rewrites.proofs.holding_item.Tie as tie
 
-abbrev Inv-loop : tie.InvT-loop
-Inv-loop o list shared n i₀ i = (i ≤ n) × (holderOf o (heldRest list shared n i) ≡ holderOf o (held (items list) shared))
+ending-by-requires : tie.Need-ending-by-requires
+ending-by-requires c κs = search needs
 
-abbrev μ-loop : tie.MeasureT-loop
-μ-loop o list shared n i₀ i = n - i
+no-holder-requires : tie.Need-no-holder-requires
+no-holder-requires c κs = search needs
 
-loop-holds : tie.Need-loop-holds Inv-loop μ-loop
-loop-holds c = (omega arith, rw held-all refl)
+returns : tie.Need-returns
+returns c = let a = c .before .before .before .before .before .args in let p = c .before .before .before .before .before .pre in c .no-holder .ensures ∙ holder-none (a .o) (now (a .list)) (now (a .shared)) (p .1) (p .0) _ (c .before .before .ending-by .ensures) (omega (arith, items-length (now (a .list))))
 
-item-at-requires : tie.Need-item-at-requires Inv-loop μ-loop
-item-at-requires c κs = omega arith
+record-at-requires : tie.Need-record-at-requires
+record-at-requires c κs = let a = c .before .before .before .before .args in let p = c .before .before .before .before .pre in omega (arith, items-length (now (a .list)))
 
-is-holding-requires : tie.Need-is-holding-requires Inv-loop μ-loop
+is-holding-requires : tie.Need-is-holding-requires
 is-holding-requires c κs = search needs
 
-shared-slice-read-t11 : tie.Need-shared-slice-read-t11 Inv-loop μ-loop
-shared-slice-read-t11 c = let a = c .before .before .before .before .before .before .before .before .args in omega (arith, items-length (now (a .list)))
+shared-slice-read-t11 : tie.Need-shared-slice-read-t11
+shared-slice-read-t11 c = let a = c .before .before .before .before .before .before .before .before .args in let p = c .before .before .before .before .before .before .before .before .pre in omega (arith, items-length (now (a .list)))
 
-returns : tie.Need-returns Inv-loop μ-loop
-returns c = let a = c .before .before .before .before .before .before .before .before .args in holder-stop (a .o) (now (a .list)) (now (a .shared)) _ _ _ _ (omega arith) (omega (arith, items-length (now (a .list)))) (item-decode _ _ (c .before .before .before .item-at .ensures)) (c .before .before .is-holding .ensures) (c .before .if1 .taken) ∙ c .before .before .before .before .before .loop .inv .1
+returns-2 : tie.Need-returns-2
+returns-2 c = let a = c .before .before .before .before .before .before .before .before .args in let p = c .before .before .before .before .before .before .before .before .pre in holder-stop (a .o) (now (a .list)) (now (a .shared)) (p .1) (p .0) _ (c .before .before .before .before .before .ending-by .ensures) _ _ (omega (arith, items-length (now (a .list)))) (c .before .before .before .record-at .ensures) (c .before .before .is-holding .ensures) (c .before .if2 .taken)
 
-add-i : tie.Need-add-i Inv-loop μ-loop
-add-i c = omega arith
+no-holder-requires-2 : tie.Need-no-holder-requires-2
+no-holder-requires-2 c κs = search needs
 
-loop-less : tie.Need-loop-less Inv-loop μ-loop
-loop-less c = omega arith
-
-loop-again : tie.Need-loop-again Inv-loop μ-loop
-loop-again c = let a = c .before .before .before .before .before .before .before .args in (omega arith, holder-turn (a .o) (now (a .list)) (now (a .shared)) _ _ _ _ (omega arith) (omega (arith, items-length (now (a .list)))) (item-decode _ _ (c .before .before .item-at .ensures)) (c .before .is-holding .ensures) (c .if1 .left) ∙ c .before .before .before .before .loop .inv .1)
-
-regular-extent-item-requires : tie.Need-regular-extent-item-requires Inv-loop μ-loop
-regular-extent-item-requires c κs = search needs
-
-returns-2 : tie.Need-returns-2 Inv-loop μ-loop
-returns-2 c = let a = c .before .before .before .before .before .args in holder-done (a .o) (now (a .list)) (now (a .shared)) _ _ (c .before .loop-test .left) ∙ c .before .before .loop .inv .1
+returns-3 : tie.Need-returns-3
+returns-3 c = let a = c .before .before .before .before .before .before .before .before .args in let p = c .before .before .before .before .before .before .before .before .pre in c .no-holder2 .ensures ∙ holder-free (a .o) (now (a .list)) (now (a .shared)) (p .1) (p .0) _ (c .before .before .before .before .before .ending-by .ensures) _ _ (omega (arith, items-length (now (a .list)))) (c .before .before .before .record-at .ensures) (c .before .before .is-holding .ensures) (c .before .if2 .left)
 
 pub holding-item-spec : {M : Type 1} → statement M
 holding-item-spec =
     tie.close
     (tie.spec
-    Inv-loop
-    μ-loop
-    loop-holds
-    item-at-requires
+    ending-by-requires
+    no-holder-requires
+    returns
+    record-at-requires
     is-holding-requires
     shared-slice-read-t11
-    returns
-    add-i
-    loop-less
-    loop-again
-    regular-extent-item-requires
-    returns-2)
+    returns-2
+    no-holder-requires-2
+    returns-3)

@@ -6,7 +6,7 @@ use Rattle.change.specs.Rewrites.{inPlaceWhy}
 use borrow.Author.Tests.{eq-eqb, ne-eqb}
 use borrow.Author.Tests.{not-true, not-false}
 use Rattle.rewrites.proofs.Refusing.{rewrite-none, rewrite-anew, rewrite-in-place, holder-sound}
-use Rattle.rewrites.proofs.Holding.{found-some, found-none}
+use Rattle.rewrites.proofs.Holding.{sound-runs, found-some, found-none}
 use Rattle.rewrites.specs.Raw.{heldIn, lentGround}
 use denote.Ref.{now}
 use mathlib.Core.Path.{_∙_, sym, ap}
@@ -15,7 +15,7 @@ use Rattle.rewrites.proofs.rewrite_refusal.Statement.{statement}
 use Rattle.rewrites.proofs.rewrite_refusal.Tie as tie
 
 holding-item-requires : tie.Need-holding-item-requires
-holding-item-requires c κs = search needs
+holding-item-requires c κs = let a = c .before .before .before .args in let p = c .before .before .before .pre in (p .1, sound-runs (a .v) (a .f) (now (a .list)) (now (a .shared)) (now (a .table)) (p .0) (p .1))
 
 returns : tie.Need-returns
 returns c = let a = c .before .before .before .before .before .before .args in rewrite-none (lentGround (a .v) (a .f) (now (a .list)) (now (a .shared)) (now (a .table))) (a .r) (found-none (c .before .before .holding-item .result) _ (c .before .before .holding-item .ensures) (not-true _ (c .if1 .taken)))
