@@ -8,9 +8,9 @@ use Rattle.records.specs.Select.{only}
 use Rattle.records.proofs.Tests.{both, both-left, both-right, every-map}
 use Rattle.cut.specs.Refs.{Ref, sameRef}
 use Rattle.refs.specs.Compared.{refBefore, without, minus}
-use Rattle.sorting.specs.Order.{upward, ordered}
+use Rattle.sorting.specs.Order.{upward, ordered, startsBefore}
 use Rattle.sorting.proofs.Order.{Order, rises, level, falls, compare, before-up, before-upward, same-self}
-use Rattle.ref_minus.specs.Walk.{startsBefore, startsWith, past}
+use Rattle.ref_minus.specs.Walk.{startsWith, past}
 
 -- ---- skipping
 

@@ -13,15 +13,15 @@ use Rattle.records.proofs.Lists.{pairs-drop}
 use Rattle.records.proofs.Counts.{keep-length, count-length}
 use Rattle.item.specs.Items.{Fields}
 use Rattle.cut.specs.Refs.{Ref, refOf, sameRef}
-use Rattle.refs.specs.Compared.{among, refBefore, refsAmong, sorted, minus}
+use Rattle.refs.specs.Compared.{among, refsAmong, sorted, minus}
 use Rattle.plan.specs.Outputs.{refNumbers}
 use Rattle.plan.specs.Reading.{refsIn}
 use Rattle.lines.specs.Lines.{Laid}
 use Rattle.lines.proofs.Laws.{Going, going-turn, going-done, laid-none, length-lay}
-use Rattle.sorting.specs.Order.{upward, ordered, pairAt}
+use Rattle.sorting.specs.Order.{upward, ordered, pairAt, startsBefore}
 use Rattle.sorting.proofs.Order.{sorted-ordered}
 use Rattle.sorting.proofs.Pairs.{pair-cons, refs-length, refs-laid, take-few}
-use Rattle.ref_minus.specs.Walk.{refsNamed, refNamed, startsBefore, startsWith, past}
+use Rattle.ref_minus.specs.Walk.{refsNamed, refNamed, startsWith, past}
 use Rattle.ref_minus.proofs.Minus.{past-is, minus-turn, minus-none}
 
 -- ---- one pair of a slice, if it is there
@@ -30,23 +30,13 @@ module _ (s : List ℕ) (k : ℕ) where
   gone : length s / 2 ≤ k → drop k (refsIn s) ≡ []
   gone h = drop-of-length-le (refsIn s) {i = k} (omega (arith, refs-length s))
 
-  pub earlier-there : (r : Ref) → k < length s / 2 → refBefore (pairAt s k) r ≡ startsBefore r (drop k (refsIn s))
-  earlier-there r h = rw (pair-cons s k h) refl
-
-  pub earlier-gone : (r : Ref) → length s / 2 ≤ k → false ≡ startsBefore r (drop k (refsIn s))
-  earlier-gone r h = rw (gone h) refl
-
   pub same-there : (r : Ref) → k < length s / 2 → sameRef (pairAt s k) r ≡ startsWith r (drop k (refsIn s))
   same-there r h = rw (pair-cons s k h) refl
 
   pub same-gone : (r : Ref) → length s / 2 ≤ k → false ≡ startsWith r (drop k (refsIn s))
   same-gone r h = rw (gone h) refl
 
-  -- one that is before another is there
-  pub starts-there : (r : Ref) (b : Bool) → b ≡ startsBefore r (drop k (refsIn s)) → b ≡ true → k ≤ length s / 2 → k < length s / 2
-  starts-there r b e t h = elim (decLt k (length s / 2)) [ yes l ↦ l | no l ↦ absurd (false≢true (earlier-gone r (omega arith) ∙ sym e ∙ t)) ]
-
-  -- and so is one that is met
+  -- one that is met is there
   pub met-there : (r : Ref) (b : Bool) (j : ℕ) → b ≡ startsWith r (drop k (refsIn s)) → k ≤ length s / 2 → j ≡ k + cond b 1 0 → j ≤ length s / 2
   met-there r false j e h f = omega arith
   met-there r true j e h f = elim (decLt k (length s / 2)) [ yes l ↦ omega arith | no l ↦ absurd (false≢true (same-gone r (omega arith) ∙ sym e)) ]

@@ -15,11 +15,6 @@ refsNamed extents fs = map refOf (keep (among extents) fs)
 abbrev pub refNamed : List ℕ → Fields → List Ref
 refNamed extents f = only (among extents f) (refOf f)
 
--- the first of a list is before r
-abbrev pub startsBefore : Ref → List Ref → Bool
-startsBefore r [] = false
-startsBefore r (q ∷ qs) = refBefore q r
-
 -- the first of a list is r
 abbrev pub startsWith : Ref → List Ref → Bool
 startsWith r [] = false

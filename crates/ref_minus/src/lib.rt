@@ -15,7 +15,7 @@ ghost use Rattle.plan.specs.Outputs.{refNumbers};
 ghost use Rattle.plan.specs.Reading.{refsIn};
 ghost use Rattle.lines.specs.Lines.{Laid};
 ghost use Rattle.sorting.specs.Order.{ordered};
-ghost use Rattle.ref_minus.specs.Walk.{refsNamed, refNamed, startsBefore, startsWith, past};
+ghost use Rattle.ref_minus.specs.Walk.{refsNamed, refNamed, startsWith, past};
 
 // ---- the references of a list
 
@@ -55,16 +55,6 @@ fn sorted_refs(list: &[u8], one: u64, two: u64, buf: &mut [u64], spare: &mut [u6
 
 // ---- two lists in order
 
-// Whether pair k of a slice is there and is before the pair s, p.
-fn is_earlier(ys: &[u64], k: usize, s: u64, p: u64) -> bool
-    ensures { λ r. ⌜ r ≡ startsBefore (record { start = s; offset = p }) (drop k (refsIn (now (ys .entry)))) ⌝ }
-{
-    if k < ys.len() / 2 {
-        return sorting::is_before(ys[k * 2], ys[k * 2 + 1], s, p);
-    }
-    false
-}
-
 // Whether pair k of a slice is there and is the pair s, p.
 fn is_there(ys: &[u64], k: usize, s: u64, p: u64) -> bool
     ensures { λ r. ⌜ r ≡ startsWith (record { start = s; offset = p }) (drop k (refsIn (now (ys .entry)))) ⌝ }
@@ -81,7 +71,7 @@ fn skip(ys: &[u64], j: usize, s: u64, p: u64) -> usize
     ensures { λ r. ⌜ (r ≤ length (now (ys .entry)) / 2) × (drop r (refsIn (now (ys .entry))) ≡ past (record { start = s; offset = p }) (drop j (refsIn (now (ys .entry))))) ⌝ }
 {
     let mut k = j;
-    while is_earlier(ys, k, s, p) {
+    while sorting::is_earlier(ys, k, s, p) {
         k += 1;
     }
     k

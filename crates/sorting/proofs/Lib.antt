@@ -3,3 +3,4 @@ pub mod Unique
 pub mod Pairs
 pub mod Merging
 pub mod Halves
+pub mod Inserting

@@ -5,7 +5,8 @@ use lib.ListN.{length, drop}
 use borrow.Author.Needs.{needs}
 use Rattle.plan.specs.Reading.{refsIn}
 use Rattle.ref_minus.specs.Walk.{past}
-use Rattle.ref_minus.proofs.Turns.{starts-there, past-turn, past-done}
+use Rattle.sorting.proofs.Inserting.{starts-there}
+use Rattle.ref_minus.proofs.Turns.{past-turn, past-done}
 use native.Mathlib.Omega.{arith}
 use Rattle.ref_minus.proofs.skip.Statement.{statement}
 use Rattle.ref_minus.proofs.skip.Tie as tie
@@ -26,15 +27,15 @@ is-earlier-requires c κs = search needs
 
 -- src/lib.rt:85:9
 add-k : tie.Need-add-k Inv-loop μ-loop
-add-k c = let a = c .before .before .before .before .args in let l = c .before .before .loop in omega (arith, starts-there (now (a .ys)) (l .k) (record { start = a .s; offset = a .p }) _ (c .before .is-earlier .ensures) (c .if1 .taken) (l .inv .0))
+add-k c = let a = c .before .before .before .before .args in let l = c .before .before .loop in omega (arith, starts-there (now (a .ys)) (l .k) (record { start = a .s; offset = a .p }) _ (c .before .is-earlier .ensures) (c .if1 .taken))
 
 -- src/lib.rt:84:5
 loop-less : tie.Need-loop-less Inv-loop μ-loop
-loop-less c = let a = c .before .before .before .before .args in let l = c .before .before .loop in omega (arith, starts-there (now (a .ys)) (l .k) (record { start = a .s; offset = a .p }) _ (c .before .is-earlier .ensures) (c .if1 .taken) (l .inv .0))
+loop-less c = let a = c .before .before .before .before .args in let l = c .before .before .loop in omega (arith, starts-there (now (a .ys)) (l .k) (record { start = a .s; offset = a .p }) _ (c .before .is-earlier .ensures) (c .if1 .taken))
 
 -- src/lib.rt:84:5
 loop-again : tie.Need-loop-again Inv-loop μ-loop
-loop-again c = let a = c .before .before .before .before .args in let l = c .before .before .loop in (omega (arith, starts-there (now (a .ys)) (l .k) (record { start = a .s; offset = a .p }) _ (c .before .is-earlier .ensures) (c .if1 .taken) (l .inv .0)), past-turn (now (a .ys)) (l .k) (record { start = a .s; offset = a .p }) _ (c .before .is-earlier .ensures) (c .if1 .taken) ∙ l .inv .1)
+loop-again c = let a = c .before .before .before .before .args in let l = c .before .before .loop in (omega (arith, starts-there (now (a .ys)) (l .k) (record { start = a .s; offset = a .p }) _ (c .before .is-earlier .ensures) (c .if1 .taken)), past-turn (now (a .ys)) (l .k) (record { start = a .s; offset = a .p }) _ (c .before .is-earlier .ensures) (c .if1 .taken) ∙ l .inv .1)
 
 -- src/lib.rt:79:1
 returns : tie.Need-returns Inv-loop μ-loop
