@@ -117,6 +117,16 @@ fn few_refusal(w: NewExtents, list: &[u8], places: &[u64]) -> u8
     sorted_refusal(w, list, places, &mut xs, &mut spare)
 }
 
+// For up to 8,192.
+fn several_refusal(w: NewExtents, list: &[u8], places: &[u64]) -> u8
+    requires { ⌜ Ends (items (now list)) × (length (now places) ≤ length (wishes w (items (now list)))) × (length (now places) ≤ 8192) ⌝ }
+    ensures { λ r. ⌜ r ≡ unless (pairs placesApart (placed (now (places .entry)) (map wantedOf (wishes w (items (now (list .entry))))))) 26 ⌝ }
+{
+    let mut xs = [0u64; 16384];
+    let mut spare = [0u64; 16384];
+    sorted_refusal(w, list, places, &mut xs, &mut spare)
+}
+
 // For up to 65,536.
 fn many_refusal(w: NewExtents, list: &[u8], places: &[u64]) -> u8
     requires { ⌜ Ends (items (now list)) × (length (now places) ≤ length (wishes w (items (now list)))) × (length (now places) ≤ 65536) ⌝ }
@@ -139,6 +149,9 @@ fn pairs_refusal(w: NewExtents, list: &[u8], places: &[u64]) -> u8
     }
     if n <= 1024 {
         return few_refusal(w, list, places);
+    }
+    if n <= 8192 {
+        return several_refusal(w, list, places);
     }
     if n <= 65536 {
         return many_refusal(w, list, places);

@@ -127,6 +127,16 @@ fn few_apart(adds: &[u64]) -> bool
     sorted_apart(adds, &mut xs, &mut spare)
 }
 
+// For up to 8,192.
+fn several_apart(adds: &[u64]) -> bool
+    requires { ⌜ length (now adds) / 3 ≤ 8192 ⌝ }
+    ensures { λ r. ⌜ r ≡ pairs addsApart (addsIn (now (adds .entry))) ⌝ }
+{
+    let mut xs = [0u64; 16384];
+    let mut spare = [0u64; 16384];
+    sorted_apart(adds, &mut xs, &mut spare)
+}
+
 // For up to 65,536.
 fn many_apart(adds: &[u64]) -> bool
     requires { ⌜ length (now adds) / 3 ≤ 65536 ⌝ }
@@ -148,6 +158,9 @@ fn are_adds_apart(adds: &[u64]) -> bool
     }
     if n <= 1024 {
         return few_apart(adds);
+    }
+    if n <= 8192 {
+        return several_apart(adds);
     }
     if n <= 65536 {
         return many_apart(adds);

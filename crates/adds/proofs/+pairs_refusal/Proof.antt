@@ -10,6 +10,7 @@ use Rattle.adds.proofs.pairs_refusal.Reads as pairs-refusal
 use Rattle.adds.proofs.pairs_refusal.Kinds as pairs-refusal-kinds
 use Rattle.adds.proofs.+pairs_refusal.Lts-pairs_refusal as pairs-refusal-lts
 use Rattle.adds.proofs.few_refusal.Reads as few-refusal-reads
+use Rattle.adds.proofs.several_refusal.Reads as several-refusal-reads
 use Rattle.adds.proofs.many_refusal.Reads as many-refusal-reads
 use Rattle.adds.proofs.plain_refusal.Reads as plain-refusal-reads
 use Rattle.adds.proofs.+pairs_refusal.{statement}
@@ -35,6 +36,8 @@ pairs-refusal-plain-refusal-requires : (t : ℕ) → pairs-refusal-lts.Need-plai
   plain-refusal-reads.Learnt,
   few-refusal-reads.Asked,
   few-refusal-reads.Learnt,
+  several-refusal-reads.Asked,
+  several-refusal-reads.Learnt,
   many-refusal-reads.Asked,
   many-refusal-reads.Learnt,
   pairs-refusal-below t,
@@ -47,6 +50,8 @@ pairs-refusal-returns : (t : ℕ) → pairs-refusal-lts.Need-returns (
   plain-refusal-reads.Learnt,
   few-refusal-reads.Asked,
   few-refusal-reads.Learnt,
+  several-refusal-reads.Asked,
+  several-refusal-reads.Learnt,
   many-refusal-reads.Asked,
   many-refusal-reads.Learnt,
   pairs-refusal-below t,
@@ -59,6 +64,8 @@ pairs-refusal-few-refusal-requires : (t : ℕ) → pairs-refusal-lts.Need-few-re
   plain-refusal-reads.Learnt,
   few-refusal-reads.Asked,
   few-refusal-reads.Learnt,
+  several-refusal-reads.Asked,
+  several-refusal-reads.Learnt,
   many-refusal-reads.Asked,
   many-refusal-reads.Learnt,
   pairs-refusal-below t,
@@ -71,6 +78,8 @@ pairs-refusal-returns-2 : (t : ℕ) → pairs-refusal-lts.Need-returns-2 (
   plain-refusal-reads.Learnt,
   few-refusal-reads.Asked,
   few-refusal-reads.Learnt,
+  several-refusal-reads.Asked,
+  several-refusal-reads.Learnt,
   many-refusal-reads.Asked,
   many-refusal-reads.Learnt,
   pairs-refusal-below t,
@@ -78,29 +87,61 @@ pairs-refusal-returns-2 : (t : ℕ) → pairs-refusal-lts.Need-returns-2 (
 ) (pairs-refusal-at t) pairs-refusal.Post
 pairs-refusal-returns-2 t c = c .few-refusal .ensures
 
-pairs-refusal-many-refusal-requires : (t : ℕ) → pairs-refusal-lts.Need-many-refusal-requires (
+pairs-refusal-several-refusal-requires : (t : ℕ) → pairs-refusal-lts.Need-several-refusal-requires (
   plain-refusal-reads.Asked,
   plain-refusal-reads.Learnt,
   few-refusal-reads.Asked,
   few-refusal-reads.Learnt,
+  several-refusal-reads.Asked,
+  several-refusal-reads.Learnt,
   many-refusal-reads.Asked,
   many-refusal-reads.Learnt,
   pairs-refusal-below t,
   pairs-refusal.Post,
 ) (pairs-refusal-at t) pairs-refusal.Post
-pairs-refusal-many-refusal-requires t c κs = (c .before .before .before .before .before .pre .1 .0, c .before .before .before .before .before .pre .1 .1, c .if3 .taken)
+pairs-refusal-several-refusal-requires t c κs = (c .before .before .before .before .before .pre .1 .0, c .before .before .before .before .before .pre .1 .1, c .if3 .taken)
 
 pairs-refusal-returns-3 : (t : ℕ) → pairs-refusal-lts.Need-returns-3 (
   plain-refusal-reads.Asked,
   plain-refusal-reads.Learnt,
   few-refusal-reads.Asked,
   few-refusal-reads.Learnt,
+  several-refusal-reads.Asked,
+  several-refusal-reads.Learnt,
   many-refusal-reads.Asked,
   many-refusal-reads.Learnt,
   pairs-refusal-below t,
   pairs-refusal.Post,
 ) (pairs-refusal-at t) pairs-refusal.Post
-pairs-refusal-returns-3 t c = c .many-refusal .ensures
+pairs-refusal-returns-3 t c = c .several-refusal .ensures
+
+pairs-refusal-many-refusal-requires : (t : ℕ) → pairs-refusal-lts.Need-many-refusal-requires (
+  plain-refusal-reads.Asked,
+  plain-refusal-reads.Learnt,
+  few-refusal-reads.Asked,
+  few-refusal-reads.Learnt,
+  several-refusal-reads.Asked,
+  several-refusal-reads.Learnt,
+  many-refusal-reads.Asked,
+  many-refusal-reads.Learnt,
+  pairs-refusal-below t,
+  pairs-refusal.Post,
+) (pairs-refusal-at t) pairs-refusal.Post
+pairs-refusal-many-refusal-requires t c κs = (c .before .before .before .before .before .before .pre .1 .0, c .before .before .before .before .before .before .pre .1 .1, c .if4 .taken)
+
+pairs-refusal-returns-4 : (t : ℕ) → pairs-refusal-lts.Need-returns-4 (
+  plain-refusal-reads.Asked,
+  plain-refusal-reads.Learnt,
+  few-refusal-reads.Asked,
+  few-refusal-reads.Learnt,
+  several-refusal-reads.Asked,
+  several-refusal-reads.Learnt,
+  many-refusal-reads.Asked,
+  many-refusal-reads.Learnt,
+  pairs-refusal-below t,
+  pairs-refusal.Post,
+) (pairs-refusal-at t) pairs-refusal.Post
+pairs-refusal-returns-4 t c = c .many-refusal .ensures
 
 pairs-refusal-slice-aggregate-pairs-refusal :
     (t : ℕ) → pairs-refusal-lts.Need-slice-aggregate-pairs-refusal (
@@ -108,64 +149,74 @@ pairs-refusal-slice-aggregate-pairs-refusal :
       plain-refusal-reads.Learnt,
       few-refusal-reads.Asked,
       few-refusal-reads.Learnt,
+      several-refusal-reads.Asked,
+      several-refusal-reads.Learnt,
       many-refusal-reads.Asked,
       many-refusal-reads.Learnt,
       pairs-refusal-below t,
       pairs-refusal.Post,
     ) (pairs-refusal-at t) pairs-refusal.Post
-pairs-refusal-slice-aggregate-pairs-refusal t c = sym (half-long (now (c .before .before .before .before .before .before .args .places)))
+pairs-refusal-slice-aggregate-pairs-refusal t c = sym (half-long (now (c .before .before .before .before .before .before .before .args .places)))
 
 pairs-refusal-pairs-refusal-requires : (t : ℕ) → pairs-refusal-lts.Need-pairs-refusal-requires (
   plain-refusal-reads.Asked,
   plain-refusal-reads.Learnt,
   few-refusal-reads.Asked,
   few-refusal-reads.Learnt,
+  several-refusal-reads.Asked,
+  several-refusal-reads.Learnt,
   many-refusal-reads.Asked,
   many-refusal-reads.Learnt,
   pairs-refusal-below t,
   pairs-refusal.Post,
 ) (pairs-refusal-at t) pairs-refusal.Post
 pairs-refusal-pairs-refusal-requires t c κs =
-    let a = c .before .before .before .before .before .before in
+    let a = c .before .before .before .before .before .before .before in
     let e = half-long (now (a .args .places)) in
-    let l : 65537 ≤ length (now (a .args .places)) = c .before .if3 .left in
+    let l : 65537 ≤ length (now (a .args .places)) = c .before .if4 .left in
     (omega (arith, e, l, a .pre .0), (a .pre .1 .0, omega (arith, e, a .pre .1 .1)))
-
-pairs-refusal-returns-4 : (t : ℕ) → pairs-refusal-lts.Need-returns-4 (
-  plain-refusal-reads.Asked,
-  plain-refusal-reads.Learnt,
-  few-refusal-reads.Asked,
-  few-refusal-reads.Learnt,
-  many-refusal-reads.Asked,
-  many-refusal-reads.Learnt,
-  pairs-refusal-below t,
-  pairs-refusal.Post,
-) (pairs-refusal-at t) pairs-refusal.Post
-pairs-refusal-returns-4 t c = part-refused (length (now (c .before .before .before .before .before .before .before .before .args .places)) / 2) (now (c .before .before .before .before .before .before .before .before .args .places)) _ _ (c .before .pairs-refusal .ensures) (c .if4 .taken)
-
-pairs-refusal-plain-refusal-requires-2 : (t : ℕ) → pairs-refusal-lts.Need-plain-refusal-requires-2 (
-  plain-refusal-reads.Asked,
-  plain-refusal-reads.Learnt,
-  few-refusal-reads.Asked,
-  few-refusal-reads.Learnt,
-  many-refusal-reads.Asked,
-  many-refusal-reads.Learnt,
-  pairs-refusal-below t,
-  pairs-refusal.Post,
-) (pairs-refusal-at t) pairs-refusal.Post
-pairs-refusal-plain-refusal-requires-2 t c κs = c .before .before .before .before .before .before .before .before .pre .1
 
 pairs-refusal-returns-5 : (t : ℕ) → pairs-refusal-lts.Need-returns-5 (
   plain-refusal-reads.Asked,
   plain-refusal-reads.Learnt,
   few-refusal-reads.Asked,
   few-refusal-reads.Learnt,
+  several-refusal-reads.Asked,
+  several-refusal-reads.Learnt,
   many-refusal-reads.Asked,
   many-refusal-reads.Learnt,
   pairs-refusal-below t,
   pairs-refusal.Post,
 ) (pairs-refusal-at t) pairs-refusal.Post
-pairs-refusal-returns-5 t c = c .plain-refusal2 .ensures
+pairs-refusal-returns-5 t c = part-refused (length (now (c .before .before .before .before .before .before .before .before .before .args .places)) / 2) (now (c .before .before .before .before .before .before .before .before .before .args .places)) _ _ (c .before .pairs-refusal .ensures) (c .if5 .taken)
+
+pairs-refusal-plain-refusal-requires-2 : (t : ℕ) → pairs-refusal-lts.Need-plain-refusal-requires-2 (
+  plain-refusal-reads.Asked,
+  plain-refusal-reads.Learnt,
+  few-refusal-reads.Asked,
+  few-refusal-reads.Learnt,
+  several-refusal-reads.Asked,
+  several-refusal-reads.Learnt,
+  many-refusal-reads.Asked,
+  many-refusal-reads.Learnt,
+  pairs-refusal-below t,
+  pairs-refusal.Post,
+) (pairs-refusal-at t) pairs-refusal.Post
+pairs-refusal-plain-refusal-requires-2 t c κs = c .before .before .before .before .before .before .before .before .before .pre .1
+
+pairs-refusal-returns-6 : (t : ℕ) → pairs-refusal-lts.Need-returns-6 (
+  plain-refusal-reads.Asked,
+  plain-refusal-reads.Learnt,
+  few-refusal-reads.Asked,
+  few-refusal-reads.Learnt,
+  several-refusal-reads.Asked,
+  several-refusal-reads.Learnt,
+  many-refusal-reads.Asked,
+  many-refusal-reads.Learnt,
+  pairs-refusal-below t,
+  pairs-refusal.Post,
+) (pairs-refusal-at t) pairs-refusal.Post
+pairs-refusal-returns-6 t c = c .plain-refusal2 .ensures
 
 pub +pairs-refusal-spec : {M : Type 1} → statement M
 +pairs-refusal-spec = close μ-pairs-refusal λ t. pairs-refusal-lts.spec (
@@ -173,6 +224,8 @@ pub +pairs-refusal-spec : {M : Type 1} → statement M
   plain-refusal-reads.Learnt,
   few-refusal-reads.Asked,
   few-refusal-reads.Learnt,
+  several-refusal-reads.Asked,
+  several-refusal-reads.Learnt,
   many-refusal-reads.Asked,
   many-refusal-reads.Learnt,
   pairs-refusal-below t,
@@ -184,10 +237,12 @@ pub +pairs-refusal-spec : {M : Type 1} → statement M
     (pairs-refusal-returns t)
     (pairs-refusal-few-refusal-requires t)
     (pairs-refusal-returns-2 t)
-    (pairs-refusal-many-refusal-requires t)
+    (pairs-refusal-several-refusal-requires t)
     (pairs-refusal-returns-3 t)
+    (pairs-refusal-many-refusal-requires t)
+    (pairs-refusal-returns-4 t)
     (pairs-refusal-slice-aggregate-pairs-refusal t)
     (pairs-refusal-pairs-refusal-requires t)
-    (pairs-refusal-returns-4 t)
-    (pairs-refusal-plain-refusal-requires-2 t)
     (pairs-refusal-returns-5 t)
+    (pairs-refusal-plain-refusal-requires-2 t)
+    (pairs-refusal-returns-6 t)
