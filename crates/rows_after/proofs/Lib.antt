@@ -4,3 +4,4 @@ pub mod Inserts
 pub mod Orders
 pub mod Merges
 pub mod Whole
+pub mod Parts
