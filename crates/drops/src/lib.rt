@@ -363,7 +363,9 @@ fn put_many(
     )
 }
 
-// A line for each drop that is a release, or for each that is an unref: by extent start, then in list order.
+// A line for each drop that is a release, or for each that is an unref: by extent start, then in list order. put_many is
+// called from two places, so that it is compiled as a function of its own: were its arrays in this one's frame, every call
+// would touch each of their pages.
 pub fn put_drops(
     c: Cut,
     release: bool,
@@ -378,15 +380,19 @@ pub fn put_drops(
     requires { ⌜ n + length (items (now list)) < 2 ^ 64 ⌝ }
     ensures { λ r. ⌜ Laid refNumbers 2 n (cond release (releases (rows (now (table .entry))) (dropsIn c (items (now (list .entry))) (now (shared .entry)))) (unrefs (rows (now (table .entry))) (dropsIn c (items (now (list .entry))) (now (shared .entry))))) (now (out .entry)) r (now (out .exit)) ⌝ }
 {
-    let most = chains::upper(table.len() / 5, list.len() / 70);
-    if most <= 64 {
-        return put_few(c, release, list, shared, table, out, n);
+    let rows = table.len() / 5;
+    let records = list.len() / 70;
+    if chains::upper(rows, records) > 65536 {
+        return put_plain(c, release, list, shared, table, out, n);
     }
-    if most <= 1024 {
-        return put_some(c, release, list, shared, table, out, n);
-    }
-    if most <= 65536 {
+    if rows > 1024 {
         return put_many(c, release, list, shared, table, out, n);
     }
-    put_plain(c, release, list, shared, table, out, n)
+    if records > 1024 {
+        return put_many(c, release, list, shared, table, out, n);
+    }
+    if chains::upper(rows, records) > 64 {
+        return put_some(c, release, list, shared, table, out, n);
+    }
+    put_few(c, release, list, shared, table, out, n)
 }
