@@ -189,5 +189,8 @@ pub fn put_sorted(x: &[u8], y: &[u8], one: u64, two: u64, out: &mut [u64], n: us
     if k <= 8192 {
         return put_8192(x, y, one, two, out, n);
     }
+    if k <= 32768 {
+        return put_65536(x, y, one, two, out, n);
+    }
     put_65536(x, y, one, two, out, n)
 }

@@ -4,53 +4,50 @@ use borrow.Author.Needs.{needs}
 use Rattle.ref_minus.proofs.put_sorted.Statement.{statement}
 use Rattle.ref_minus.proofs.put_sorted.Tie as tie
 
--- src/lib.rt:194:9
 put-32-requires : tie.Need-put-32-requires
 put-32-requires c κs = (c .before .before .before .before .before .pre .0, items-most (now (c .before .before .before .before .before .args .x)) _ (c .before .if1 .taken), c .before .before .before .before .before .pre .2)
 
--- src/lib.rt:194:9
 same-length : tie.Need-same-length
 same-length c = search needs
 
--- src/lib.rt:194:9
 returns : tie.Need-returns
 returns c = search needs
 
--- src/lib.rt:197:9
 put-1024-requires : tie.Need-put-1024-requires
 put-1024-requires c κs = (c .before .before .before .before .before .before .pre .0, items-most (now (c .before .before .before .before .before .before .args .x)) _ (c .before .if2 .taken), c .before .before .before .before .before .before .pre .2)
 
--- src/lib.rt:197:9
 same-length-2 : tie.Need-same-length-2
 same-length-2 c = search needs
 
--- src/lib.rt:197:9
 returns-2 : tie.Need-returns-2
 returns-2 c = search needs
 
--- src/lib.rt:200:9
 put-8192-requires : tie.Need-put-8192-requires
 put-8192-requires c κs = (c .before .before .before .before .before .before .before .pre .0, items-most (now (c .before .before .before .before .before .before .before .args .x)) _ (c .before .if3 .taken), c .before .before .before .before .before .before .before .pre .2)
 
--- src/lib.rt:200:9
 same-length-3 : tie.Need-same-length-3
 same-length-3 c = search needs
 
--- src/lib.rt:200:9
 returns-3 : tie.Need-returns-3
 returns-3 c = search needs
 
--- src/lib.rt:202:5
 put-65536-requires : tie.Need-put-65536-requires
 put-65536-requires c κs = search needs
 
--- src/lib.rt:188:1
 same-length-4 : tie.Need-same-length-4
 same-length-4 c = search needs
 
--- src/lib.rt:188:1
 returns-4 : tie.Need-returns-4
 returns-4 c = search needs
+
+put-65536-requires-2 : tie.Need-put-65536-requires-2
+put-65536-requires-2 c κs = search needs
+
+same-length-5 : tie.Need-same-length-5
+same-length-5 c = search needs
+
+returns-5 : tie.Need-returns-5
+returns-5 c = search needs
 
 pub put-sorted-spec : {M : Type 1} → statement M
 put-sorted-spec =
@@ -67,4 +64,7 @@ put-sorted-spec =
     returns-3
     put-65536-requires
     same-length-4
-    returns-4)
+    returns-4
+    put-65536-requires-2
+    same-length-5
+    returns-5)
