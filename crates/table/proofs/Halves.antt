@@ -1,13 +1,11 @@
 -- The search by halves finds what the search from the first row finds. Assumes nothing.
-use mathlib.Core.Path.{_≡_, refl, ap, _∙_, sym}
-use mathlib.Core.Bool.{Bool, true, false, cond}
+use mathlib.Core.Path.{_≡_, ap, _∙_, sym}
+use mathlib.Core.Bool.{true}
 use mathlib.Core.List.{List, []}
-use Prim.Native.Nat.{ℕ, _+_, _-_, _*_, _/_, _<_, _≤_}
+use Prim.Native.Nat.{ℕ, _+_, _*_, _/_, _<_, _≤_}
 use native.Mathlib.Omega.{arith}
 use native.Mathlib.Decide.{ℕ-discrete, decLt}
-use lib.Dec.{leb}
 use lib.ListN.{length, getD, drop}
-use borrow.Author.Tests.{leb-true, leb-false}
 use Rattle.table.specs.Rows.{rowOf, rows, tableKept, find}
 use Rattle.table.specs.declared.Row.{Row}
 use Rattle.table.specs.declared.Found.the-variants.{At, Missing}
@@ -54,10 +52,6 @@ module _ (t : List ℕ) (start lo hi : ℕ) (k : tableKept (rows t) ≡ true) (b
         high = λ j p q. elim (ℕ-discrete j m) [ yes x ↦ rw x l | no x ↦ omega (arith, rising m j (omega arith) q) ];
       }
 
-  -- row m starts at most there: go on from it
-  from-it : m < hi → startAt t m ≤ start → Between t start m hi
-  from-it h l = record { top = b .top; low = λ j q. omega (arith, rising j m q (omega arith)); high = b .high }
-
   -- row m starts there
   pub hit : (r : Row) → m < hi → r ≡ rowOf (drop (m * 5) t) → startAt t m ≡ start → At m r ≡ find start (rows t)
   hit r h e s =
@@ -72,29 +66,3 @@ module _ (t : List ℕ) (start lo hi : ℕ) (k : tableKept (rows t) ≡ true) (b
       let l : length (rows t) ≡ length t / 5 = rows-length t in
       let s : startAt t j ≡ start = sym (start-at t j (rowOf []) (omega arith)) ∙ x in
       elim (decLt j lo) [ yes a ↦ omega (arith, b .low j a) | no a ↦ omega (arith, b .high j (omega arith) (omega arith)) ]))
-
--- rows lo up to hi, halved at row m: as many are left from the one or the other on
-pub halved : (t : List ℕ) (start at n half r : ℕ) → tableKept (rows t) ≡ true → Between t start at (at + n) → half + half ≤ n → 1 ≤ half
-    → r ≡ cond (leb (startAt t (at + half)) start) (at + half) at → Between t start r (r + (n - half))
-halved t start at n half r k b h one e = go (leb (startAt t (at + half)) start) refl e
-  where
-    m : ℕ
-    m = at + half
-
-    go : (x : Bool) → leb (startAt t m) start ≡ x → r ≡ cond x m at → Between t start r (r + (n - half))
-    go true l e =
-        let s : m + (n - half) ≡ at + n = omega arith in
-        rw (e, s) (from-it t start at (at + n) k b m (omega arith) (leb-true _ _ l))
-    go false l e =
-        let d = down t start at (at + n) k b m (omega arith) (leb-false _ _ l) in
-        rw e (record { top = omega (arith, b .top); low = d .low; high = λ j p q. d .high j (omega arith) q })
-
--- one row is left, and it does not start there
-pub passed : (t : List ℕ) (start at : ℕ) → tableKept (rows t) ≡ true → Between t start at (at + 1) → (startAt t at ≡ start → ⊥) → Missing ≡ find start (rows t)
-passed t start at k b h = elim (decLt (startAt t at) start) [
-  | yes l ↦ miss t start (at + 1) (at + 1) k (up t start at (at + 1) k b at (omega arith) l) 0 (omega arith)
-  | no l ↦ miss t start at at k (down t start at (at + 1) k b at (omega arith) (below l)) 0 (omega arith)
-]
-  where
-    below : (startAt t at < start → ⊥) → start < startAt t at
-    below l = elim (ℕ-discrete (startAt t at) start) [ yes x ↦ absurd (h x) | no x ↦ omega arith ]

@@ -3,10 +3,9 @@ use records::both;
 use records::sum_fits;
 use records::unless;
 ghost use mathlib.Core.Path.{_≡_};
-ghost use mathlib.Core.Bool.{true, cond};
-ghost use Prim.Native.Nat.{_+_, _*_, _/_, _<_, _≤_};
-ghost use lib.Dec.{leb};
-ghost use lib.ListN.{length, getD, drop};
+ghost use mathlib.Core.Bool.{true};
+ghost use Prim.Native.Nat.{_+_, _*_, _≤_};
+ghost use lib.ListN.{length, drop};
 ghost use Rattle.records.specs.Stages.{unless};
 ghost use Rattle.table.specs.Rows.{rowOf, rows, tableSized, tableKept, find, oneMoreReference};
 ghost use Rattle.table.specs.Windows.{windowInside};
@@ -91,33 +90,24 @@ pub fn table_refusal(table: &[u64]) -> u8
     0
 }
 
-// Row m, if it starts at most at `start`, else row `at`.
-fn further(table: &[u64], start: u64, at: usize, m: usize) -> usize
-    requires { ⌜ m < length (now table) / 5 ⌝ }
-    ensures { λ r. ⌜ r ≡ cond (leb (getD (now (table .entry)) (m * 5) 0) start) m at ⌝ }
-{
-    if table[m * 5] <= start { m } else { at }
-}
-
-// The row that starts at `start`, by halves: the last of n rows from `at` on that does not start past it is kept, and no jump
-// depends on a row, as none could be foretold.
+// The row that starts at `start`, by halves.
 pub fn find_row(table: &[u64], start: u64) -> Found
     requires { ⌜ tableKept (rows (now table)) ≡ true ⌝ }
     ensures { λ r. ⌜ r ≡ find start (rows (now (table .entry))) ⌝ }
 {
-    let mut at = 0;
-    let mut n = table.len() / 5;
-    if n == 0 {
-        return Found::Missing;
-    }
-    while n > 1 {
-        let half = n / 2;
-        at = further(table, start, at, at + half);
-        n -= half;
-    }
-    let row = row_at(table, at);
-    if row.start == start {
-        return Found::At(at, row);
+    let mut lo = 0;
+    let mut hi = table.len() / 5;
+    while lo < hi {
+        let mid = lo + (hi - lo) / 2;
+        let s = table[mid * 5];
+        if s == start {
+            return Found::At(mid, row_at(table, mid));
+        }
+        if s < start {
+            lo = mid + 1;
+        } else {
+            hi = mid;
+        }
     }
     Found::Missing
 }
