@@ -149,7 +149,7 @@ uint8_t zag_clone(uint64_t sector, uint64_t total, uint64_t generation, uint64_t
  * `new_generation`, keyed 0). `new_generation` is 1 more than the current one. The lengths of list and table are with the room
  * behind them, which is not looked at; the parts' lengths are those of the plan alone (an output's records times their width). With
  * ZAG_PLAN the first two of `answer` are the new counts of records and of rows; behind these list and table keep what they held. A plan
- * that no planner made is applied or refused like any other. It needs 1.2 MB of stack. */
+ * that no planner made is applied or refused like any other. It needs 1.3 MB of stack. */
 uint8_t zag_apply(uint64_t sector, uint64_t new_generation, uint64_t number, size_t items, size_t rows,
                   uint8_t *list, size_t list_len, uint64_t *table, size_t table_len,
                   const uint8_t *edits, size_t edits_len, const uint64_t *shares, size_t shares_len,

@@ -127,5 +127,9 @@ zeroed n k h =
     let l : k ≤ length {A = ℕ} (replicate n 0) = rw (length-replicate {A = ℕ} n 0) h in
     record { gains = l; losses = l; leaves = l; zero = λ y m. let z : getD {A = ℕ} (replicate n 0) y 0 ≡ 0 = getD-replicate {A = ℕ} n y 0 0 (omega arith) in (z, z, z) }
 
+-- a table has no more rows
+pub no-more : (n : ℕ) → n ≤ 65536 → 65536 < n → ⊥
+no-more n h l = omega arith
+
 pub met-same : (o o′ : Applying) (r : Applied) (list list′ table table′ : List ℕ) → o ≡ o′ → Met o′ r list list′ table table′ → Met o r list list′ table table′
 met-same o o′ r list list′ table table′ e m = rw e m

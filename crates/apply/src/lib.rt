@@ -194,7 +194,8 @@ fn apply_to_some(
     )
 }
 
-// With as many rows as there may be.
+// With as many rows as there may be. It would call itself past 65,536 rows, which is never: a function that calls itself is not
+// built into its caller, and so a call with few rows does not walk over the megabyte of stack that these arrays want.
 fn apply_to_many(
     number: u64,
     sector: u64,
@@ -215,7 +216,7 @@ fn apply_to_many(
     let mut gained = [0u64; 65536];
     let mut lost = [0u64; 65536];
     let mut gone = [0u8; 65536];
-    apply_zeroed(
+    let answer = apply_zeroed(
         number,
         sector,
         generation,
@@ -231,7 +232,24 @@ fn apply_to_many(
         &mut gained,
         &mut lost,
         &mut gone,
-    )
+    );
+    if rows > 65536 {
+        return apply_to_many(
+            number,
+            sector,
+            generation,
+            list,
+            items,
+            table,
+            rows,
+            edits,
+            shares,
+            unrefs,
+            releases,
+            adds,
+        );
+    }
+    answer
 }
 
 // A plan applied, where what is lent is accepted.
