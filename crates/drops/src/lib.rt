@@ -332,7 +332,8 @@ fn put_some(
     )
 }
 
-// and for all that are accepted.
+// and for all that are accepted. It would call itself for a longer table, which is never: a function that calls itself is not built
+// into its caller, and so a call with few rows does not touch the half megabyte of stack that these arrays take.
 fn put_many(
     c: Cut,
     release: bool,
@@ -350,7 +351,7 @@ fn put_many(
 {
     let mut heads = [0u32; 65536];
     let mut nexts = [0u32; 65536];
-    put_linked(
+    let m = put_linked(
         c,
         release,
         list,
@@ -360,12 +361,14 @@ fn put_many(
         &mut nexts,
         out,
         n,
-    )
+    );
+    if table.len() / 5 > 65536 {
+        return put_many(c, release, list, shared, table, out, n);
+    }
+    m
 }
 
-// A line for each drop that is a release, or for each that is an unref: by extent start, then in list order. put_many is
-// called from two places, so that it is compiled as a function of its own: were its arrays in this one's frame, every call
-// would touch each of their pages.
+// A line for each drop that is a release, or for each that is an unref: by extent start, then in list order.
 pub fn put_drops(
     c: Cut,
     release: bool,
@@ -380,19 +383,15 @@ pub fn put_drops(
     requires { ⌜ n + length (items (now list)) < 2 ^ 64 ⌝ }
     ensures { λ r. ⌜ Laid refNumbers 2 n (cond release (releases (rows (now (table .entry))) (dropsIn c (items (now (list .entry))) (now (shared .entry)))) (unrefs (rows (now (table .entry))) (dropsIn c (items (now (list .entry))) (now (shared .entry))))) (now (out .entry)) r (now (out .exit)) ⌝ }
 {
-    let rows = table.len() / 5;
-    let records = list.len() / 70;
-    if chains::upper(rows, records) > 65536 {
-        return put_plain(c, release, list, shared, table, out, n);
+    let most = chains::upper(table.len() / 5, list.len() / 70);
+    if most <= 64 {
+        return put_few(c, release, list, shared, table, out, n);
     }
-    if rows > 1024 {
-        return put_many(c, release, list, shared, table, out, n);
-    }
-    if records > 1024 {
-        return put_many(c, release, list, shared, table, out, n);
-    }
-    if chains::upper(rows, records) > 64 {
+    if most <= 1024 {
         return put_some(c, release, list, shared, table, out, n);
     }
-    put_few(c, release, list, shared, table, out, n)
+    if most <= 65536 {
+        return put_many(c, release, list, shared, table, out, n);
+    }
+    put_plain(c, release, list, shared, table, out, n)
 }
