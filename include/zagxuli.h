@@ -1,7 +1,8 @@
 /* Zagxuli for C and whoever calls C: plans of Btrfs extent changes, and applying them.
  *
  * A call reads what it is lent and writes what it says here, and nothing else: it touches no device, keeps nothing between calls,
- * allocates nothing, never aborts, and always returns. Every answer and every byte written is proved to be what its definition says
+ * allocates nothing, never aborts, and always returns. Plans take up to 2.2 MB of stack: 40 KB if list and table have at most 1,024
+ * records each and there are at most 1,024 places. Every answer and every byte written is proved to be what its definition says
  * (crates/ffi/src/lib.rt, crates/ffi_apply/src/lib.rt). Calls on different memory may run at the same time.
  *
  * library/build makes target/staticlib/libzagxuli.a, for x86-64 Linux; link it, and nothing else but the C library.
@@ -149,7 +150,7 @@ uint8_t zag_clone(uint64_t sector, uint64_t total, uint64_t generation, uint64_t
  * `new_generation`, keyed 0). `new_generation` is 1 more than the current one. The lengths of list and table are with the room
  * behind them, which is not looked at; the parts' lengths are those of the plan alone (an output's records times their width). With
  * ZAG_PLAN the first two of `answer` are the new counts of records and of rows; behind these list and table keep what they held. A plan
- * that no planner made is applied or refused like any other. It needs 1.3 MB of stack. */
+ * that no planner made is applied or refused like any other. It needs up to 1.4 MB of stack, with more than 8,192 adds 3.4 MB. */
 uint8_t zag_apply(uint64_t sector, uint64_t new_generation, uint64_t number, size_t items, size_t rows,
                   uint8_t *list, size_t list_len, uint64_t *table, size_t table_len,
                   const uint8_t *edits, size_t edits_len, const uint64_t *shares, size_t shares_len,

@@ -11,8 +11,8 @@ pub items-most : (s : List ℕ) (k : ℕ) → length s / 70 ≤ k → length (it
 items-most s k h = omega (arith, items-length s)
 
 -- a list is not that long
-pub not-longer : {A : Type 0} (s : List ℕ) → length (items s) ≤ 65536 → 65536 < length s / 70 → A
-not-longer s h l = absurd (omega (arith, items-length s))
+pub not-longer : {A : Type 0} (s : List ℕ) (k : ℕ) → length (items s) ≤ k → k < length s / 70 → A
+not-longer s k h l = absurd (omega (arith, items-length s))
 
 pub buffers-fit : (k w n x y b : ℕ) → k * 2 ≡ w → 64 ≤ w → n + x < b → x ≤ k → y ≤ 32
     → (n + x < b) × (x * 2 ≤ length {A = ℕ} (replicate w 0)) × (y * 2 ≤ length {A = ℕ} (replicate 64 0)) × (length {A = ℕ} (replicate w 0) ≤ length {A = ℕ} (replicate w 0)) × (length {A = ℕ} (replicate 64 0) ≤ length {A = ℕ} (replicate w 0))

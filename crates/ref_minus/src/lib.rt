@@ -152,8 +152,23 @@ fn put_1024(x: &[u8], y: &[u8], one: u64, two: u64, out: &mut [u64], n: usize) -
     put_difference(x, y, one, two, &mut xs, &mut ys, &mut spare, out, n)
 }
 
-// The same for at most 65,536 records of x. It would call itself for a longer one, which is never: a function that calls itself is
-// not built into its caller, and so a call with few records does not touch the two megabytes of stack that these buffers take.
+// The same for at most 8,192 records of x. It would call itself for a longer one, which is never: a function that calls itself is
+// not built into its caller, and so a call with few records does not touch the stack that these buffers take.
+fn put_8192(x: &[u8], y: &[u8], one: u64, two: u64, out: &mut [u64], n: usize) -> usize
+    requires { ⌜ (n + length (items (now x)) < 2 ^ 64) × (length (items (now x)) ≤ 8192) × (length (items (now y)) ≤ 32) ⌝ }
+    ensures { λ r. ⌜ Laid refNumbers 2 n (minus (refsAmong (one ∷ two ∷ []) (items (now (x .entry)))) (refsAmong (one ∷ two ∷ []) (items (now (y .entry))))) (now (out .entry)) r (now (out .exit)) ⌝ }
+{
+    let mut xs = [0u64; 16384];
+    let mut ys = [0u64; 64];
+    let mut spare = [0u64; 16384];
+    let m = put_difference(x, y, one, two, &mut xs, &mut ys, &mut spare, out, n);
+    if x.len() / 70 > 8192 {
+        return put_8192(x, y, one, two, out, n);
+    }
+    m
+}
+
+// The same for at most 65,536 records of x. It would never call itself either.
 fn put_65536(x: &[u8], y: &[u8], one: u64, two: u64, out: &mut [u64], n: usize) -> usize
     requires { ⌜ (n + length (items (now x)) < 2 ^ 64) × (length (items (now x)) ≤ 65536) × (length (items (now y)) ≤ 32) ⌝ }
     ensures { λ r. ⌜ Laid refNumbers 2 n (minus (refsAmong (one ∷ two ∷ []) (items (now (x .entry)))) (refsAmong (one ∷ two ∷ []) (items (now (y .entry))))) (now (out .entry)) r (now (out .exit)) ⌝ }
@@ -179,6 +194,9 @@ pub fn put_sorted(x: &[u8], y: &[u8], one: u64, two: u64, out: &mut [u64], n: us
     }
     if k <= 1024 {
         return put_1024(x, y, one, two, out, n);
+    }
+    if k <= 8192 {
+        return put_8192(x, y, one, two, out, n);
     }
     put_65536(x, y, one, two, out, n)
 }

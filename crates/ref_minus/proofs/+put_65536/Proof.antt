@@ -64,7 +64,7 @@ put-65536-put-65536-requires : (t : ℕ) → put-65536-lts.Need-put-65536-requir
   put-65536-below t,
   put-65536.Post,
 ) (put-65536-at t) put-65536.Post
-put-65536-put-65536-requires t c κs = let a = c .before .before .before .before .before .before .before .before .before .before .before .before .before .before .before in not-longer (now (a .args .x)) (a .pre .1 .1) (c .before .if1 .taken)
+put-65536-put-65536-requires t c κs = let a = c .before .before .before .before .before .before .before .before .before .before .before .before .before .before .before in not-longer (now (a .args .x)) 65536 (a .pre .1 .1) (c .before .if1 .taken)
 
 put-65536-same-length : (t : ℕ) → put-65536-lts.Need-same-length (
   put-difference-reads.Asked,
@@ -72,7 +72,7 @@ put-65536-same-length : (t : ℕ) → put-65536-lts.Need-same-length (
   put-65536-below t,
   put-65536.Post,
 ) (put-65536-at t) put-65536.Post
-put-65536-same-length t c = let a = c .before .before .before .before .before .before .before .before .before .before .before .before .before .before .before .before .before .before in not-longer (now (a .args .x)) (a .pre .1 .1) (c .before .before .before .before .if1 .taken)
+put-65536-same-length t c = let a = c .before .before .before .before .before .before .before .before .before .before .before .before .before .before .before .before .before .before in not-longer (now (a .args .x)) 65536 (a .pre .1 .1) (c .before .before .before .before .if1 .taken)
 
 put-65536-returns : (t : ℕ) → put-65536-lts.Need-returns (
   put-difference-reads.Asked,
@@ -80,7 +80,7 @@ put-65536-returns : (t : ℕ) → put-65536-lts.Need-returns (
   put-65536-below t,
   put-65536.Post,
 ) (put-65536-at t) put-65536.Post
-put-65536-returns t c = let a = c .before .before .before .before .before .before .before .before .before .before .before .before .before .before .before .before .before .before in not-longer (now (a .args .x)) (a .pre .1 .1) (c .before .before .before .before .if1 .taken)
+put-65536-returns t c = let a = c .before .before .before .before .before .before .before .before .before .before .before .before .before .before .before .before .before .before in not-longer (now (a .args .x)) 65536 (a .pre .1 .1) (c .before .before .before .before .if1 .taken)
 
 put-65536-same-length-2 : (t : ℕ) → put-65536-lts.Need-same-length-2 (
   put-difference-reads.Asked,

@@ -22,14 +22,23 @@ same-length-2 c = search needs
 returns-2 : tie.Need-returns-2
 returns-2 c = search needs
 
-put-65536-requires : tie.Need-put-65536-requires
-put-65536-requires c κs = search needs
+put-8192-requires : tie.Need-put-8192-requires
+put-8192-requires c κs = (c .before .before .before .before .before .before .before .pre .0, items-most (now (c .before .before .before .before .before .before .before .args .x)) _ (c .before .if3 .taken), c .before .before .before .before .before .before .before .pre .2)
 
 same-length-3 : tie.Need-same-length-3
 same-length-3 c = search needs
 
 returns-3 : tie.Need-returns-3
 returns-3 c = search needs
+
+put-65536-requires : tie.Need-put-65536-requires
+put-65536-requires c κs = search needs
+
+same-length-4 : tie.Need-same-length-4
+same-length-4 c = search needs
+
+returns-4 : tie.Need-returns-4
+returns-4 c = search needs
 
 pub put-sorted-spec : {M : Type 1} → statement M
 put-sorted-spec =
@@ -41,6 +50,9 @@ put-sorted-spec =
     put-1024-requires
     same-length-2
     returns-2
-    put-65536-requires
+    put-8192-requires
     same-length-3
-    returns-3)
+    returns-3
+    put-65536-requires
+    same-length-4
+    returns-4)
