@@ -12,39 +12,39 @@ use Rattle.records.proofs.Tests.{first-zero, first-last, first-assoc, first-go,
 use Rattle.item.specs.Items.{Fields, items}
 use Rattle.table.specs.declared.Row.{Row}
 use Rattle.table.specs.Rows.{rows, tableKept}
-use Rattle.lists.specs.Lists.{wellKept, whole}
+use Rattle.lists.specs.Lists.{listKept, wholeSectors}
 use Rattle.lists.proofs.Laws.{kept}
 use Rattle.request.specs.Lent.{sectorSound}
 use Rattle.request.proofs.Stages.{sector-some}
-use Rattle.plan.specs.Plans.{Plan}
-use Rattle.applying.specs.Apply.{editsRise, itemsNow, rowsNow, rowMissing, netSound, applyRefusal, Applying, applied, orApplied, apply}
-use Rattle.plan.specs.Reading.{editsIn}
-use Rattle.applying.specs.Lent.{Parts, itemsIn, rowsIn, countBroken, partsBroken, planLent, applyLent}
-use Rattle.results.specs.Merge.{Rising}
+use Rattle.plan_def.specs.Plans.{Plan}
+use Rattle.apply_def.specs.Apply.{editsRise, listAfter, rowsAfter, rowMissing, netSound, applyRefusal, Applying, applied, orApplied, apply}
+use Rattle.plan_def.specs.ReadBack.{editsIn}
+use Rattle.apply_def.specs.Lent.{Parts, itemsIn, rowsIn, countBroken, partsBroken, planLent, applyLent}
+use Rattle.apply_walk.specs.Merge.{Rising}
 use Rattle.apply_refusals.specs.Stages.{ones, others, Ready, resultRefusal}
 use Rattle.apply_refusals.proofs.Lent.{items-many, rows-many}
 
 -- ---- nothing is refused
 
 pub record Facts (number sector : ℕ) (list table edits : List ℕ) : Type 0 where
-  pub kept : wellKept number (items list) ≡ true
+  pub kept : listKept number (items list) ≡ true
   pub rising : pairs editsRise (editsIn edits) ≡ true
   pub tabled : tableKept (rows table) ≡ true
   pub sound : sectorSound sector ≡ true
-  pub sectors : every (whole sector) (items list) ≡ true
+  pub sectors : every (wholeSectors sector) (items list) ≡ true
 
 facts : (number sector : ℕ) (list table edits : List ℕ) → others number sector list table edits ≡ 0 → Facts number sector list table edits
 facts number sector list table edits h =
-    let a = first-zero (unless (wellKept number (items list)) 2) _ h in
+    let a = first-zero (unless (listKept number (items list)) 2) _ h in
     let b = first-zero (unless (pairs editsRise (editsIn edits)) 2) _ (a .1) in
     let c = first-zero (unless (tableKept (rows table)) 3) _ (b .1) in
     let d = first-zero (unless (sectorSound sector) 4) _ (c .1) in
     record {
-      kept = unless-zero (wellKept number (items list)) 2 (a .0) (λ z. omega arith);
+      kept = unless-zero (listKept number (items list)) 2 (a .0) (λ z. omega arith);
       rising = unless-zero (pairs editsRise (editsIn edits)) 2 (b .0) (λ z. omega arith);
       tabled = unless-zero (tableKept (rows table)) 3 (c .0) (λ z. omega arith);
       sound = unless-zero (sectorSound sector) 4 (d .0) (λ z. omega arith);
-      sectors = unless-zero (every (whole sector) (items list)) 4 (d .1) (λ z. omega arith);
+      sectors = unless-zero (every (wholeSectors sector) (items list)) 4 (d .1) (λ z. omega arith);
     }
 
 module _ (number sector n m : ℕ) (list table edits : List ℕ) (r : Ready number sector n m list table edits) where
@@ -63,7 +63,7 @@ module _ (number sector n m : ℕ) (list table edits : List ℕ) (r : Ready numb
   -- what is left of the definition
   pub apply-is : (generation room space : ℕ) (p : Plan) → p .edits ≡ editsIn edits
       → apply sector number generation room space (itemsIn n list) (rowsIn m table) p
-      ≡ orApplied (resultRefusal sector number generation room space (itemsIn n list) (rowsIn m table) p) (applied (itemsNow sector number generation (itemsIn n list) (rowsIn m table) p) (rowsNow sector number generation (itemsIn n list) (rowsIn m table) p))
+      ≡ orApplied (resultRefusal sector number generation room space (itemsIn n list) (rowsIn m table) p) (applied (listAfter p (itemsIn n list)) (rowsAfter generation p (rowsIn m table)))
   unfolding apply applyRefusal firstOf
   apply-is generation room space p e =
       let fs : List Fields = itemsIn n list in
@@ -72,14 +72,14 @@ module _ (number sector n m : ℕ) (list table edits : List ℕ) (r : Ready numb
       let a : leb (length fs) 65536 ≡ true = le-leb (length fs) 65536 (omega (arith, items-many n list (r .listed), r .fewItems)) in
       let b : leb (length rs) 65536 ≡ true = le-leb (length rs) 65536 (omega (arith, lent-rows, r .fewRows)) in
       let g : pairs editsRise (p .edits) ≡ true = rw e (f .rising) in
-      let over : ℕ = unless (leb (length (itemsNow sector number generation fs rs p)) 65536 && leb (length (rowsNow sector number generation fs rs p)) 65536) 1 in
+      let over : ℕ = unless (leb (length (listAfter p fs)) 65536 && leb (length (rowsAfter generation p rs)) 65536) 1 in
       let miss : ℕ = stage (rowMissing rs) (p .shares ++ (p .unrefs ++ p .releases)) in
       let nets : ℕ = unless (every (netSound p) rs) 3 in
-      let l2 : ℕ = unless (wellKept number (itemsNow sector number generation fs rs p) && every (whole sector) (itemsNow sector number generation fs rs p)) 2 in
-      let t3 : ℕ = unless (tableKept (rowsNow sector number generation fs rs p)) 3 in
-      let last : ℕ = unless (leb (length (itemsNow sector number generation fs rs p)) room && leb (length (rowsNow sector number generation fs rs p)) space) 27 in
+      let l2 : ℕ = unless (listKept number (listAfter p fs) && every (wholeSectors sector) (listAfter p fs)) 2 in
+      let t3 : ℕ = unless (tableKept (rowsAfter generation p rs)) 3 in
+      let last : ℕ = unless (leb (length (listAfter p fs)) room && leb (length (rowsAfter generation p rs)) space) 27 in
       rw (a, b, f .kept, g, f .tabled, f .sound, f .sectors)
-      (ap (λ (x : ℕ). orApplied x (applied (itemsNow sector number generation fs rs p) (rowsNow sector number generation fs rs p))) (all over miss nets l2 t3 last))
+      (ap (λ (x : ℕ). orApplied x (applied (listAfter p fs) (rowsAfter generation p rs))) (all over miss nets l2 t3 last))
     where
       all : (a b c d e f : ℕ) → first (first 0 (first 0 (first 0 (first 0 (first 0 (first 0 (first 0 (first a (first b (first c (first d (first e 0)))))))))))) (first f 0) ≡ first a (first b (first c (first d (first e f))))
       all zero zero zero zero zero f = unfold first in first-last f
@@ -107,7 +107,7 @@ module _ (sector number generation n m : ℕ) (list table : List ℕ) (p : Parts
   later = first (others number sector (take (n * 70) list) (take (m * 5) table) (p .edits)) (resultRefusal sector number generation (length list / 70) (length table / 5) fs rs (planLent p))
 
   abbrev result : Applying
-  result = applied (itemsNow sector number generation fs rs (planLent p)) (rowsNow sector number generation fs rs (planLent p))
+  result = applied (listAfter (planLent p) fs) (rowsAfter generation (planLent p) rs)
 
   lent-is : applyLent sector number generation n m list table p ≡ orApplied (first (ones n m list table p) later) result
   unfolding apply applyRefusal firstOf
@@ -115,7 +115,7 @@ module _ (sector number generation n m : ℕ) (list table : List ℕ) (p : Parts
       or-or _ _ result
       ∙ ap (λ (x : ℕ). orApplied x result)
       (flat (countBroken n 70 list) (countBroken m 5 table) (partsBroken p) (unless (leb (length fs) 65536) 1) (unless (leb (length rs) 65536) 1)
-      (unless (wellKept number fs) 2) (unless (pairs editsRise (editsIn (p .edits))) 2) (unless (tableKept rs) 3) (unless (sectorSound sector) 4) (unless (every (whole sector) fs) 4) _ _ _ _ _ _)
+      (unless (listKept number fs) 2) (unless (pairs editsRise (editsIn (p .edits))) 2) (unless (tableKept rs) 3) (unless (sectorSound sector) 4) (unless (every (wholeSectors sector) fs) 4) _ _ _ _ _ _)
     where
       flat : (a b c d e f g h i j k l m n o p : ℕ)
           → first (first a (first b (first c 0))) (first (first d (first e (first f (first g (first h (first i (first j (first k (first l (first m (first n (first o 0)))))))))))) (first p 0))

@@ -12,24 +12,25 @@ use Rattle.records.proofs.Tests.{first-zero, unless-zero, both-left, both-right
 use Rattle.item.specs.Items.{Fields, items, encode}
 use Rattle.table.specs.declared.Row.{Row}
 use Rattle.table.specs.Rows.{rows, tableKept, rowNumbers}
-use Rattle.lists.specs.Lists.{wellKept, whole}
-use Rattle.plan.specs.Plans.{Plan}
-use Rattle.plan.specs.Outputs.{laid}
-use Rattle.applying.specs.Apply.{itemsNow, rowsNow, rowMissing, netSound, Applying, applied, orApplied, apply}
-use Rattle.applying.specs.Lent.{itemsIn, rowsIn}
-use Rattle.results.specs.Checks.{itemsNow as listNow}
-use Rattle.counting.specs.Counts.{netsFrom}
-use Rattle.rows_after.specs.Places.{stayFrom, rowsNow as tableNow}
-use Rattle.rows_after.proofs.Rows.{rows-first}
+use Rattle.lists.specs.Lists.{listKept, wholeSectors}
+use Rattle.plan_def.specs.Plans.{Plan}
+use Rattle.plan_def.specs.Outputs.{laid}
+use Rattle.apply_def.specs.Apply.{listAfter, rowsAfter, rowMissing, netSound, Applying, applied, orApplied, apply}
+use Rattle.apply_def.specs.Lent.{itemsIn, rowsIn}
+use Rattle.apply_walk.specs.Checks.{itemsNow as listNow}
+use Rattle.apply_counts.specs.Counts.{netsFrom}
+use Rattle.apply_rows.specs.Places.{stayFrom, rowsNow as tableNow}
+use Rattle.apply_rows.proofs.Rows.{rows-first}
 use Rattle.apply_refusals.specs.Stages.{Ready, resultRefusal, Stands}
 use Rattle.apply_refusals.proofs.Results.{items-now, rows-now, nets-fit}
 use Rattle.apply.specs.declared.Applied.{Applied}
 use Rattle.apply.specs.declared.Applied.the-variants.{Done, Refused}
-use Rattle.apply.specs.Outcomes.{done, Met, Zeros}
+use Rattle.apply.specs.Outcomes.{done, MetApplyingWith}
+use Rattle.apply.specs.Raw.{Zeros}
 use Rattle.apply.proofs.Accepted.{apply-is}
 
 -- a refusal that is due
-pub met-refused : (o a : Applying) (n : ℕ) (list table : List ℕ) → o ≡ orApplied n a → (n ≡ 0 → ⊥) → Met o (Refused n) list list table table
+pub met-refused : (o a : Applying) (n : ℕ) (list table : List ℕ) → o ≡ orApplied n a → (n ≡ 0 → ⊥) → MetApplyingWith o (Refused n) list list table table
 met-refused o a zero list table e h = absurd (h refl)
 met-refused o a (suc n) list table e h = rw e (record { answer = refl; bytes = refl; numbers = refl })
 
@@ -55,15 +56,15 @@ module _ (number sector generation n m : ℕ) (list table edits adds g l d : Lis
 
   module _ (p : Plan) (s : Stands edits adds rs g l d missing p) (why : ℕ) (hw : why ≡ resultRefusal sector number generation room space fs rs p) where
     abbrev ruleItems : List Fields
-    ruleItems = itemsNow sector number generation fs rs p
+    ruleItems = listAfter p fs
 
     abbrev ruleRows : List Row
-    ruleRows = rowsNow sector number generation fs rs p
+    ruleRows = rowsAfter generation p rs
 
     apply-now : apply sector number generation room space fs rs p ≡ orApplied why (applied ruleItems ruleRows)
     apply-now = apply-is number sector n m list table edits r generation room space p (s .edited) ∙ ap (λ (x : ℕ). orApplied x (applied ruleItems ruleRows)) (sym hw)
 
-    pub result-refused : (why ≡ 0 → ⊥) → Met (apply sector number generation room space fs rs p) (Refused why) list list table table
+    pub result-refused : (why ≡ 0 → ⊥) → MetApplyingWith (apply sector number generation room space fs rs p) (Refused why) list list table table
     result-refused z = met-refused (apply sector number generation room space fs rs p) (applied ruleItems ruleRows) why list table apply-now z
 
     -- the result as the code has it
@@ -80,11 +81,11 @@ module _ (number sector generation n m : ℕ) (list table edits adds g l d : Lis
       none : resultRefusal sector number generation room space fs rs p ≡ 0
       none = sym hw ∙ z
 
-      behind : (first (unless (every (netSound p) rs) 3) (first (unless (wellKept number ruleItems && every (whole sector) ruleItems) 2) (first (unless (tableKept ruleRows) 3) (unless (leb (length ruleItems) room && leb (length ruleRows) space) 27)))) ≡ 0
+      behind : (first (unless (every (netSound p) rs) 3) (first (unless (listKept number ruleItems && every (wholeSectors sector) ruleItems) 2) (first (unless (tableKept ruleRows) 3) (unless (leb (length ruleItems) room && leb (length ruleRows) space) 27)))) ≡ 0
       behind = first-zero (stage (rowMissing rs) (p .shares ++ (p .unrefs ++ p .releases))) _ (first-zero (unless (leb (length ruleItems) 65536 && leb (length ruleRows) 65536) 1) _ none .1) .1
 
       last : (unless (tableKept ruleRows) 3 ≡ 0) × (unless (leb (length ruleItems) room && leb (length ruleRows) space) 27 ≡ 0)
-      last = first-zero (unless (tableKept ruleRows) 3) _ (first-zero (unless (wellKept number ruleItems && every (whole sector) ruleItems) 2) _ (first-zero (unless (every (netSound p) rs) 3) _ behind .1) .1)
+      last = first-zero (unless (tableKept ruleRows) 3) _ (first-zero (unless (listKept number ruleItems && every (wholeSectors sector) ruleItems) 2) _ (first-zero (unless (every (netSound p) rs) 3) _ behind .1) .1)
 
       roomy : (leb (length ruleItems) room && leb (length ruleRows) space) ≡ true
       roomy = unless-zero (leb (length ruleItems) room && leb (length ruleRows) space) 27 (last .1) (λ e. omega arith)
@@ -111,7 +112,7 @@ module _ (number sector generation n m : ℕ) (list table edits adds g l d : Lis
       pub result-done : (a b : ℕ) (list′ table′ : List ℕ)
           → a ≡ length (listNow (take (n * 70) list) edits) → list′ ≡ laid encode (listNow (take (n * 70) list) edits) list
           → b ≡ length (tableNow generation adds (stayFrom g l d 0 old)) → table′ ≡ laid rowNumbers (tableNow generation adds (stayFrom g l d 0 old)) table
-          → Met (apply sector number generation room space fs rs p) (Done (record { items = a; rows = b })) list list′ table table′
+          → MetApplyingWith (apply sector number generation room space fs rs p) (Done (record { items = a; rows = b })) list list′ table table′
       result-done a b list′ table′ ea el eb et =
           rw (apply-now ∙ ap (λ (x : ℕ). orApplied x (applied ruleItems ruleRows)) z)
           (record {
@@ -131,5 +132,5 @@ zeroed n k h =
 pub no-more : (n : ℕ) → n ≤ 65536 → 65536 < n → ⊥
 no-more n h l = omega arith
 
-pub met-same : (o o′ : Applying) (r : Applied) (list list′ table table′ : List ℕ) → o ≡ o′ → Met o′ r list list′ table table′ → Met o r list list′ table table′
+pub met-same : (o o′ : Applying) (r : Applied) (list list′ table table′ : List ℕ) → o ≡ o′ → MetApplyingWith o′ r list list′ table table′ → MetApplyingWith o r list list′ table table′
 met-same o o′ r list list′ table table′ e m = rw e m

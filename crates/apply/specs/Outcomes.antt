@@ -1,12 +1,13 @@
 -- What applying answers, and what it leaves in the list and the table that it was lent.
 use mathlib.Core.List.{List}
 use mathlib.Core.Path.{_≡_}
-use Prim.Native.Nat.{ℕ, _<_, _≤_}
-use lib.ListN.{length, getD}
+use Prim.Native.Nat.{ℕ}
+use lib.ListN.{length}
+use Rattle.records.specs.Lent.{Slice, old, new}
 use Rattle.table.specs.Rows.{rowNumbers}
 use Rattle.item.specs.Items.{encode}
-use Rattle.plan.specs.Outputs.{laid}
-use Rattle.applying.specs.Apply.{Applying, applied, refusal}
+use Rattle.plan_def.specs.Outputs.{laid}
+use Rattle.apply_def.specs.Apply.{Applying, applied, refusal}
 use Rattle.apply.specs.declared.Applied.{Applied}
 use Rattle.apply.specs.declared.Applied.the-variants.{Done, Refused}
 
@@ -16,9 +17,9 @@ pub data Told : Type 0 where
   refused : ℕ → Told
 
 -- each case of the enum
-abbrev pub said : Applied → Told
-said (Done s) = done (s .items) (s .rows)
-said (Refused n) = refused n
+abbrev pub appliedSaid : Applied → Told
+appliedSaid (Done s) = done (s .items) (s .rows)
+appliedSaid (Refused n) = refused n
 
 abbrev pub told : Applying → Told
 told (applied fs rs) = done (length fs) (length rs)
@@ -34,14 +35,10 @@ tableLeft (applied fs rs) table = laid rowNumbers rs table
 tableLeft (refusal n) table = table
 
 -- applying does what its definition says: the answer, and every byte and number of both after it
-pub record Met (o : Applying) (r : Applied) (list list′ table table′ : List ℕ) : Type 0 where
-  pub answer : said r ≡ told o
+pub record MetApplyingWith (o : Applying) (r : Applied) (list list′ table table′ : List ℕ) : Type 0 where
+  pub answer : appliedSaid r ≡ told o
   pub bytes : list′ ≡ listLeft o list
   pub numbers : table′ ≡ tableLeft o table
 
--- arrays of zeros with a place for each of so many rows
-pub record Zeros (rows : ℕ) (gained lost gone : List ℕ) : Type 0 where
-  pub gains : rows ≤ length gained
-  pub losses : rows ≤ length lost
-  pub leaves : rows ≤ length gone
-  pub zero : (y : ℕ) → y < rows → (getD gained y 0 ≡ 0) × (getD lost y 0 ≡ 0) × (getD gone y 0 ≡ 0)
+abbrev pub MetApplying : Applying → Applied → (list table : Slice) → Type 0
+MetApplying o r list table = MetApplyingWith o r (old list) (new list) (old table) (new table)

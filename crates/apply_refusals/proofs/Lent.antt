@@ -10,9 +10,9 @@ use borrow.Author.Tests.{leb-true}
 use Rattle.records.specs.Stages.{unless, first}
 use Rattle.item.proofs.Laws.{items-length}
 use Rattle.table.proofs.Laws.{rows-length}
-use Rattle.applying.specs.Lent.{itemsIn, rowsIn}
-use Rattle.items_after.proofs.Whole.{items-first}
-use Rattle.rows_after.proofs.Rows.{rows-first}
+use Rattle.apply_def.specs.Lent.{itemsIn, rowsIn}
+use Rattle.apply_items.proofs.Whole.{items-first}
+use Rattle.apply_rows.proofs.Rows.{rows-first}
 
 -- how many records and rows there are
 pub items-many : (n : ℕ) (s : List ℕ) → n ≤ length s / 70 → length (itemsIn n s) ≡ n

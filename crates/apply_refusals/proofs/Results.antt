@@ -15,21 +15,21 @@ use Rattle.item.specs.Items.{Fields, items}
 use Rattle.table.specs.declared.Row.{Row}
 use Rattle.table.specs.Rows.{rows, tableKept}
 use Rattle.table.proofs.Laws.{rows-length}
-use Rattle.lists.specs.Lists.{wellKept, whole}
-use Rattle.cut.specs.Pieces.{itemsOf}
-use Rattle.cut.specs.Edits.{Edit, itemsAfter}
-use Rattle.plan.specs.Plans.{Plan, Add}
-use Rattle.applying.specs.Apply.{goes, moved, rowOfAdd, insertRows, rowsAfter, rowMissing, netSound, itemsNow, rowsNow}
-use Rattle.plan.specs.Reading.{addsIn}
-use Rattle.applying.proofs.Table.{left-kept}
-use Rattle.results.specs.Checks.{itemsNow as listNow, resultSound}
-use Rattle.counting.specs.Counts.{netsFrom}
-use Rattle.counting.proofs.Nets.{nets-sound, stays-many}
-use Rattle.rows_after.specs.Places.{stayFrom, rowsNow as tableNow}
-use Rattle.rows_after.proofs.Stays.{stays-moved}
-use Rattle.rows_after.proofs.Whole.{now-long}
-use Rattle.clearing.specs.Clear.{addsFit}
-use Rattle.clearing.proofs.Kept.{fits-kept}
+use Rattle.lists.specs.Lists.{listKept, wholeSectors}
+use Rattle.cut_def.specs.Pieces.{itemsOf}
+use Rattle.cut_def.specs.Edits.{Edit, itemsAfter}
+use Rattle.plan_def.specs.Plans.{Plan, Add}
+use Rattle.apply_def.specs.Apply.{goes, moved, rowOfAdd, insertRows, rowsAfter, rowMissing, netSound, listAfter}
+use Rattle.plan_def.specs.ReadBack.{addsIn}
+use Rattle.apply_def.proofs.Table.{left-kept}
+use Rattle.apply_walk.specs.Checks.{itemsNow as listNow, resultSound}
+use Rattle.apply_counts.specs.Counts.{netsFrom}
+use Rattle.apply_counts.proofs.Nets.{nets-sound, stays-many}
+use Rattle.apply_rows.specs.Places.{stayFrom, rowsNow as tableNow}
+use Rattle.apply_rows.proofs.Stays.{stays-moved}
+use Rattle.apply_rows.proofs.Whole.{now-long}
+use Rattle.apply_clear.specs.Clear.{addsFit}
+use Rattle.apply_clear.proofs.Kept.{fits-kept}
 use Rattle.apply_refusals.specs.Stages.{resultRefusal, Stands}
 
 module _ (edits adds : List ℕ) (rs : List Row) (g l d : List ℕ) (missing : ℕ) (p : Plan) (s : Stands edits adds rs g l d missing p) (sector number generation : ℕ) (list : List ℕ) where
@@ -40,10 +40,10 @@ module _ (edits adds : List ℕ) (rs : List Row) (g l d : List ℕ) (missing : �
   stay = stayFrom g l d 0 rs
 
   abbrev ruleItems : List Fields
-  ruleItems = itemsNow sector number generation fs rs p
+  ruleItems = listAfter p fs
 
   abbrev ruleRows : List Row
-  ruleRows = rowsNow sector number generation fs rs p
+  ruleRows = rowsAfter generation p rs
 
   -- the result as the code has it
   pub items-now : ruleItems ≡ listNow list edits
@@ -75,7 +75,7 @@ module _ (edits adds : List ℕ) (rs : List Row) (g l d : List ℕ) (missing : �
 
     abbrev rest : ℕ
     rest =
-        first (unless (wellKept number ruleItems && every (whole sector) ruleItems) 2)
+        first (unless (listKept number ruleItems && every (wholeSectors sector) ruleItems) 2)
         (first (unless (tableKept ruleRows) 3)
         (unless (leb (length ruleItems) room && leb (length ruleRows) space) 27))
 

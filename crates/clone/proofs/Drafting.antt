@@ -15,28 +15,28 @@ use Rattle.request.specs.declared.File.{File}
 use Rattle.request.specs.declared.Numbers.{Numbers}
 use Rattle.request.specs.Lent.{sectorSound}
 use Rattle.request.specs.Answers.{Outcome, plan, nothing, refused}
-use Rattle.segment.specs.Segments.{Runs}
-use Rattle.segment.proofs.Segments.{kept-runs}
-use Rattle.plan.specs.Plans.{Plan, numbers, told}
-use Rattle.copies.specs.declared.Copying.{Copying}
-use Rattle.copies.specs.Raw.{InFiles, rangeKept}
-use Rattle.copies.specs.Replacing.{planFor}
-use Rattle.cloning.specs.Raw.{Replacing}
-use Rattle.spans.specs.declared.Span.{Span}
-use Rattle.spans.specs.Spans.{destinationRefusal, destinationRecord, growthRefusal}
-use Rattle.clone_plan.specs.Clone.{draftedLent}
-use Rattle.clone_plan.proofs.Planned.{destination-ranged}
+use Rattle.cut_segment.specs.Segments.{Runs}
+use Rattle.cut_segment.proofs.Segments.{kept-runs}
+use Rattle.plan_def.specs.Plans.{Plan, numbers, told}
+use Rattle.clone_items.specs.declared.Copying.{Copying}
+use Rattle.clone_items.specs.Raw.{InFiles, rangeKept}
+use Rattle.clone_items.specs.Replacing.{planFor}
+use Rattle.clone_lay.specs.Raw.{Replacing}
+use Rattle.clone_span.specs.declared.CloneRange.{CloneRange}
+use Rattle.clone_span.specs.Spans.{destinationRefusal, destinationRecord, growthRefusal}
+use Rattle.clone_def.specs.Clone.{draftedLent}
+use Rattle.clone_def.proofs.Planned.{destination-ranged}
 use Rattle.clone.specs.Raw.{meant, copyingOf, lentAsked, destinationAsked, copiesAsked, Chosen}
 use Rattle.clone.proofs.Operating as op
 use Rattle.clone.proofs.Finishing.{replacing-now}
 
-module _ (v : Volume) (dst src : File) (own : Bool) (s : Span) (list shared source table : List ℕ) (ch : Chosen own dst src list source)
-    (m : Span) (em : m ≡ meant (src .size) s) (why : ℕ) (ew : why ≡ lentAsked v dst src own m list shared source table) where
+module _ (v : Volume) (dst src : File) (own : Bool) (s : CloneRange) (list shared source table : List ℕ) (ch : Chosen own dst src list source)
+    (m : CloneRange) (em : m ≡ meant (src .size) s) (why : ℕ) (ew : why ≡ lentAsked v dst src own m list shared source table) where
   abbrev draft : Outcome Plan
   draft = draftedLent v dst src own s list shared source table
 
   asked-lent : why ≡ lentAsked v dst src own (meant (src .size) s) list shared source table
-  asked-lent = ew ∙ ap (λ (x : Span). lentAsked v dst src own x list shared source table) em
+  asked-lent = ew ∙ ap (λ (x : CloneRange). lentAsked v dst src own x list shared source table) em
 
   pub draft-lent : (why ≡ 0 → ⊥) → refused why ≡ told draft
   draft-lent z = sym (ap told (op.said-lent v dst src own s list shared source table ch why asked-lent z))
@@ -62,7 +62,7 @@ module _ (v : Volume) (dst src : File) (own : Bool) (s : Span) (list shared sour
       some = rw em at n
 
       asked-destination : x ≡ destinationAsked (v .sector) own (dst .size) (meant (src .size) s) (items list)
-      asked-destination = ex ∙ ap (λ (y : Span). destinationAsked (v .sector) own (dst .size) y (items list)) em
+      asked-destination = ex ∙ ap (λ (y : CloneRange). destinationAsked (v .sector) own (dst .size) y (items list)) em
 
       pub draft-asked : (x ≡ 0 → ⊥) → refused x ≡ told draft
       draft-asked h = sym (ap told (op.said-asked v dst src own s list shared source table ch why asked-lent z some x asked-destination h))
@@ -79,7 +79,7 @@ module _ (v : Volume) (dst src : File) (own : Bool) (s : Span) (list shared sour
         draft-runs =
             let fs : List Fields = items list in
             let e : destinationAsked (v .sector) own (dst .size) m fs ≡ 0 = sym ex ∙ h in
-            let r = first-zero (destinationRefusal (v .sector) own 0 (dst .size) (m .from) (m .to) (m .length)) (first (stage destinationRecord fs) (growthRefusal (v .sector) (dst .size) (m .to) (m .length) fs)) e .1 in
+            let r = first-zero (destinationRefusal (v .sector) own (dst .size) (m .from) (m .to) (m .length)) (first (stage destinationRecord fs) (growthRefusal (v .sector) (dst .size) (m .to) (m .length) fs)) e .1 in
             let q = first-zero (stage destinationRecord fs) (growthRefusal (v .sector) (dst .size) (m .to) (m .length) fs) r .0 in
             kept-runs (dst .number) fs (op.lent-facts v dst src own s list shared source table ch why asked-lent z .destination .kept) (destination-ranged fs q)
 
@@ -102,5 +102,5 @@ module _ (v : Volume) (dst src : File) (own : Bool) (s : Span) (list shared sour
 
             pub draft-planned : (size : ℕ) (r : Numbers) → size ≡ max (dst .size) (m .to + m .length) → r ≡ numbers (planFor c (items list) shared (items source) (rows table) size) → plan r ≡ told draft
             draft-planned size r es er =
-                let e : size ≡ max (dst .size) (s .to + meant (src .size) s .length) = es ∙ ap (λ (y : Span). max (dst .size) (y .to + y .length)) em in
+                let e : size ≡ max (dst .size) (s .to + meant (src .size) s .length) = es ∙ ap (λ (y : CloneRange). max (dst .size) (y .to + y .length)) em in
                 ap plan (er ∙ (λ i. numbers (planFor (copy-is i) (items list) shared (items source) (rows table) (e i)))) ∙ sym (ap told drafted-plan)

@@ -20,28 +20,28 @@ use Rattle.request.specs.declared.Numbers.{Numbers}
 use Rattle.request.specs.declared.Answer.{Answer}
 use Rattle.request.specs.declared.Answer.the-variants.{Planned as planned-answer, Nothing as nothing-answer, Refused as refused-answer}
 use Rattle.request.specs.Answers.{Outcome, plan, nothing, refused}
-use Rattle.cut.specs.Pieces.{cutPieces}
-use Rattle.cut.proofs.Kept.{ranged-cut, every-insertAll}
-use Rattle.plan.specs.Plans.{Plan, numbers, told, refusedOr}
-use Rattle.plan.specs.Outputs.{Outs, roomsOf, roomFor, Met, addNumbers}
-use Rattle.plan.proofs.Outcomes.{refusedOr-plan}
-use Rattle.lines.proofs.Laws.{lay-nil}
-use Rattle.laying.specs.declared.Counts.{Counts}
-use Rattle.laying.specs.Laid.{PlanLaid}
-use Rattle.laying.proofs.Outputs.{outputs-laid, met-refused, met-nothing}
-use Rattle.copies.specs.declared.Copying.{Copying}
-use Rattle.copies.specs.Copies.{clones}
-use Rattle.copies.specs.Replacing.{piecesNow, planFor}
-use Rattle.copies.proofs.Items.{clones-ranged, clones-rise, clones-start, copied-sound}
-use Rattle.cloning.specs.Raw.{Placing, Replacing}
-use Rattle.spans.specs.declared.Span.{Span}
-use Rattle.clone_plan.specs.Clone.{chosen, copying, sourceItems, lentAndSource, cloneRefusal, drafted, withRoom, draftedLent, cloneLent}
+use Rattle.cut_def.specs.Pieces.{cutPieces}
+use Rattle.cut_def.proofs.Kept.{ranged-cut, every-insertAll}
+use Rattle.plan_def.specs.Plans.{Plan, numbers, told, refusedOr}
+use Rattle.plan_def.specs.Outputs.{Outs, roomsOf, roomFor, MetWith, addNumbers}
+use Rattle.plan_def.proofs.Outcomes.{refusedOr-plan}
+use Rattle.plan_lines.proofs.Laws.{lay-nil}
+use Rattle.change_lay.specs.declared.Counts.{Counts}
+use Rattle.change_lay.specs.Laid.{PlanLaid}
+use Rattle.change_lay.proofs.Outputs.{outputs-laid, met-refused, met-nothing}
+use Rattle.clone_items.specs.declared.Copying.{Copying}
+use Rattle.clone_items.specs.Copies.{clones}
+use Rattle.clone_items.specs.Replacing.{piecesNow, planFor}
+use Rattle.clone_items.proofs.Items.{clones-ranged, clones-rise, clones-start, copied-sound}
+use Rattle.clone_lay.specs.Raw.{Placing, Replacing}
+use Rattle.clone_span.specs.declared.CloneRange.{CloneRange}
+use Rattle.clone_def.specs.Clone.{chosen, copying, sourceItems, lentAndSource, cloneRefusal, drafted, withRoom, draftedLent, cloneLent}
 use Rattle.clone.specs.Raw.{meant, copyingOf, Chosen}
-use Rattle.clone_plan.proofs.Planned.{Planned, L, drafted-planned}
-use Rattle.clone_plan.proofs.Laws.{span-limit, width-some, top-limit, listKept, sourceKept, after-kept}
+use Rattle.clone_def.proofs.Planned.{Planned, L, drafted-planned}
+use Rattle.clone_def.proofs.Laws.{span-limit, width-some, top-limit, beforeKept, sourceKept, after-kept}
 use Rattle.clone.proofs.Operating.{pick-same, pick-own, or-none, or-some}
 
-module _ (v : Volume) (dst src : File) (own : Bool) (s : Span) (list shared source table : List ℕ) (p : Plan) (h : Planned v dst src own s (items list) shared (items source) (rows table) p) where
+module _ (v : Volume) (dst src : File) (own : Bool) (s : CloneRange) (list shared source table : List ℕ) (p : Plan) (h : Planned v dst src own s (items list) shared (items source) (rows table) p) where
   abbrev k : Copying
   k = copying v dst src own s (items list) shared (items source) (rows table)
 
@@ -69,7 +69,7 @@ module _ (v : Volume) (dst src : File) (own : Bool) (s : Span) (list shared sour
         copies = record { inside = record { source = source-room; destination = room }; sound = copied-sound k some room (rows table) _ its q (h .records) };
         rise = clones-rise k some room (rows table) _ its q (h .records);
         inside = clones-start k some room (rows table) _ its q (h .records);
-        kept = listKept v dst src own s (items list) shared (items source) (rows table) p h;
+        kept = beforeKept v dst src own s (items list) shared (items source) (rows table) p h;
         ranges = h .«all-ranged»;
         «kept-now» = after-kept v dst src own s (items list) shared (items source) (rows table) p h;
         «ranges-now» = every-insertAll ranged (clones k its) (cutPieces (k .to) (k .to + k .span) (items list)) (clones-ranged k some room (rows table) _ its q (h .records)) (ranged-cut (k .to) (k .to + k .span) (items list) (h .«all-ranged»));
@@ -78,7 +78,7 @@ module _ (v : Volume) (dst src : File) (own : Bool) (s : Span) (list shared sour
       }
 
 -- with a source that was chosen
-module _ (v : Volume) (dst src : File) (own : Bool) (s : Span) (list shared source table : List ℕ) (ch : Chosen own dst src list source) (p : Plan) (e : draftedLent v dst src own s list shared source table ≡ plan p) where
+module _ (v : Volume) (dst src : File) (own : Bool) (s : CloneRange) (list shared source table : List ℕ) (ch : Chosen own dst src list source) (p : Plan) (e : draftedLent v dst src own s list shared source table ≡ plan p) where
   planned-now : Planned v dst src own s (items list) shared (items source) (rows table) p
   planned-now = drafted-planned v dst src own s (items list) shared (items source) (rows table) p (refusedOr-plan _ _ p e .1)
 
@@ -138,13 +138,13 @@ module _ (c : Copying) (fs : List Fields) (bs : List ℕ) (its : List Fields) (r
   why-is : short ≡ unless (roomFor (roomsOf before) q) 27
   why-is = why q (sym same)
 
-  pub finish-refused : (short ≡ 0 → ⊥) → Met (c .number) (withRoom (roomsOf before) (plan q)) (refused-answer short) before before
+  pub finish-refused : (short ≡ 0 → ⊥) → MetWith (c .number) (withRoom (roomsOf before) (plan q)) (refused-answer short) before before
   finish-refused z = met-refused (c .number) short (withRoom (roomsOf before) (plan q)) before (ap (λ (w : ℕ). refusedOr w (plan q)) (sym why-is) ∙ or-some short (plan q) z)
 
   pub finish-planned :
       (r : Counts) (after : Outs) → short ≡ 0 → before .adds ≡ after .adds
       → PlanLaid (c .number) (planFor c fs bs its rs 0) (planFor c fs bs its rs 0 .edits) r before after
-      → Met (c .number) (withRoom (roomsOf before) (plan q)) (planned-answer n) before after
+      → MetWith (c .number) (withRoom (roomsOf before) (plan q)) (planned-answer n) before after
   finish-planned r after z a l =
       let fits : roomFor (roomsOf before) q ≡ true = unless-zero (roomFor (roomsOf before) q) 27 (sym why-is ∙ z) (λ e. omega arith) in
       let o : withRoom (roomsOf before) (plan q) ≡ plan q = or-none (unless (roomFor (roomsOf before) q) 27) (plan q) (sym why-is ∙ z) in
@@ -160,7 +160,7 @@ module _ (c : Copying) (fs : List Fields) (bs : List ℕ) (its : List Fields) (r
 
 -- choosing the source again changes nothing
 again :
-    (v : Volume) (dst src : File) (own : Bool) (s : Span) (list shared source table : List ℕ)
+    (v : Volume) (dst src : File) (own : Bool) (s : CloneRange) (list shared source table : List ℕ)
     → draftedLent v dst src own s list shared source table ≡ draftedLent v dst (chosen own dst src) own s list shared (chosen own list source) table
 unfolding drafted lentAndSource cloneRefusal
 again v dst src true s list shared source table = refl
@@ -181,7 +181,7 @@ told-plan (plan p) n h = let e : n ≡ numbers p = cc in (p, refl, e)
 told-plan nothing n h = let z : _≡_ {A = ℕ} 0 1 = cc in absurd (omega arith)
 told-plan (refused m) n h = let z : _≡_ {A = ℕ} 0 1 = cc in absurd (omega arith)
 
-module _ (v : Volume) (dst src : File) (own : Bool) (s : Span) (list shared source table : List ℕ) (before : Outs) (file : File) (bytes : List ℕ) (ef : file ≡ chosen own dst src) (eb : bytes ≡ chosen own list source) where
+module _ (v : Volume) (dst src : File) (own : Bool) (s : CloneRange) (list shared source table : List ℕ) (before : Outs) (file : File) (bytes : List ℕ) (ef : file ≡ chosen own dst src) (eb : bytes ≡ chosen own list source) where
   pub chosen-now : Chosen own dst file list bytes
   chosen-now = record { file = pick-own own dst src file ef; bytes = pick-own own list source bytes eb }
 
@@ -191,10 +191,10 @@ module _ (v : Volume) (dst src : File) (own : Bool) (s : Span) (list shared sour
   same-draft : draftedLent v dst src own s list shared source table ≡ draftedLent v dst file own s list shared bytes table
   same-draft = again v dst src own s list shared source table ∙ (λ i. draftedLent v dst (sym ef i) own s list shared (sym eb i) table)
 
-  pub range-refused : (n : ℕ) → refused n ≡ told (draftedLent v dst file own s list shared bytes table) → Met (dst .number) whole (refused-answer n) before before
+  pub range-refused : (n : ℕ) → refused n ≡ told (draftedLent v dst file own s list shared bytes table) → MetWith (dst .number) whole (refused-answer n) before before
   range-refused n h = met-refused (dst .number) n whole before (ap (withRoom (roomsOf before)) (same-draft ∙ told-refused _ n h))
 
-  pub range-nothing : nothing ≡ told (draftedLent v dst file own s list shared bytes table) → Met (dst .number) whole nothing-answer before before
+  pub range-nothing : nothing ≡ told (draftedLent v dst file own s list shared bytes table) → MetWith (dst .number) whole nothing-answer before before
   range-nothing h = met-nothing (dst .number) whole before (ap (withRoom (roomsOf before)) (same-draft ∙ told-nothing _ h))
 
   -- a plan goes on to the second half
@@ -219,8 +219,8 @@ module _ (v : Volume) (dst src : File) (own : Bool) (s : Span) (list shared sour
       pub range-numbers : n ≡ numbers (planFor k (items list) shared (items bytes) (rows table) (n .size))
       range-numbers = drawn .2 ∙ ap numbers plan-now
 
-      pub range-finished : (r : Answer) (after : Outs) → Met (k .number) (withRoom (roomsOf before) (plan (planFor k (items list) shared (items bytes) (rows table) (n .size)))) r before after → Met (dst .number) whole r before after
+      pub range-finished : (r : Answer) (after : Outs) → MetWith (k .number) (withRoom (roomsOf before) (plan (planFor k (items list) shared (items bytes) (rows table) (n .size)))) r before after → MetWith (dst .number) whole r before after
       range-finished r after t =
           let e : whole ≡ withRoom (roomsOf before) (plan (planFor k (items list) shared (items bytes) (rows table) (n .size))) = ap (withRoom (roomsOf before)) (same-draft ∙ drawn .1 ∙ ap plan plan-now) in
-          subst (λ (o : Outcome Plan). Met (dst .number) o r before after) (sym e)
-          (subst (λ (x : ℕ). Met x (withRoom (roomsOf before) (plan (planFor k (items list) shared (items bytes) (rows table) (n .size)))) r before after) (ap (λ (c : Copying). c .number) ek) t)
+          subst (λ (o : Outcome Plan). MetWith (dst .number) o r before after) (sym e)
+          (subst (λ (x : ℕ). MetWith x (withRoom (roomsOf before) (plan (planFor k (items list) shared (items bytes) (rows table) (n .size)))) r before after) (ap (λ (c : Copying). c .number) ek) t)

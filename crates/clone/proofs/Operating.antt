@@ -7,7 +7,8 @@ use native.Mathlib.Omega.{arith}
 use lib.Dec.{eqb, leb, ltb}
 use lib.ListN.{length}
 use borrow.Author.Tests.{eqb-true, leb-true, ltb-true, eq-eqb, ne-eqb}
-use Rattle.records.specs.Stages.{unless, first, firstOf, stage, every}
+use Rattle.plan_def.proofs.Outcomes.{two-refused}
+use Rattle.records.specs.Stages.{whenever, unless, first, firstOf, stage, every}
 use Rattle.records.proofs.Tests.{both-left, both-right, first-zero, first-last, first-assoc, firstOf-zero, unless-zero, every-map}
 use Rattle.item.specs.Items.{Fields, items, ranged}
 use Rattle.table.specs.Rows.{rows, oneMoreReference}
@@ -18,29 +19,24 @@ use Rattle.request.specs.declared.File.{File}
 use Rattle.request.specs.Lent.{sectorSound, lentRefusal2, lent2, listBroken, tableBroken}
 use Rattle.request.specs.Answers.{Outcome, plan, nothing, refused}
 use Rattle.request.proofs.Stages.{Accepted2, accepted2}
-use Rattle.cut.specs.Refs.{Ref}
-use Rattle.refs.specs.Drops.{dropsRefusal}
-use Rattle.plan.specs.Plans.{Plan, refusedOr}
-use Rattle.copies.specs.declared.Copying.{Copying}
-use Rattle.copies.specs.Copies.{sourceRecord}
-use Rattle.copies.specs.Raw.{InFiles, rangeKept}
-use Rattle.copies.specs.Replacing.{dropsOf, splitsOf, planFor}
-use Rattle.spans.specs.declared.Span.{Span}
-use Rattle.spans.specs.Spans.{resolved, sourceRefusal, destinationRefusal, destinationRecord, growthRefusal}
-use Rattle.clone_plan.specs.Clone.{chosen, lentAndSource, cloneRefusal, drafted, draftedLent}
+use Rattle.cut_def.specs.Refs.{Ref}
+use Rattle.ref_def.specs.Drops.{dropsRefusal}
+use Rattle.plan_def.specs.Plans.{Plan, refusedOr}
+use Rattle.clone_items.specs.declared.Copying.{Copying}
+use Rattle.clone_items.specs.Copies.{sourceRecord}
+use Rattle.clone_items.specs.Raw.{InFiles, rangeKept}
+use Rattle.clone_items.specs.Replacing.{cloneDrops, cloneSplits, planFor}
+use Rattle.clone_span.specs.declared.CloneRange.{CloneRange}
+use Rattle.clone_span.specs.Spans.{resolved, sourceRefusal, destinationRefusal, destinationRecord, growthRefusal}
+use Rattle.clone_def.specs.Clone.{chosen, lentAndSource, cloneRefusal, drafted, draftedLent}
 use Rattle.clone.specs.Raw.{meant, copyingOf, lentAsked, destinationAsked, copiesAsked, Chosen}
-use Rattle.clone_plan.proofs.Laws.{span-limit}
+use Rattle.clone_def.proofs.Laws.{span-limit}
 
 -- ---- refusals one behind the other
 
-or-first : (a b : ℕ) (o : Outcome Plan) → refusedOr a (refusedOr b o) ≡ refusedOr (first a b) o
-unfolding refusedOr first
-or-first zero b o = refl
-or-first (suc a) b o = refl
-
 two-groups : (b l x : ℕ) (o : Outcome Plan) → refusedOr b (refusedOr (firstOf (l ∷ x ∷ [])) o) ≡ refusedOr (first (first b l) x) o
 unfolding firstOf
-two-groups b l x o = or-first b (first l (first x 0)) o ∙ ap (λ (n : ℕ). refusedOr n o) (rw (first-last, first-assoc) refl)
+two-groups b l x o = two-refused b (first l (first x 0)) o ∙ ap (λ (n : ℕ). refusedOr n o) (rw (first-last, first-assoc) refl)
 
 seven-groups : (a b c d e f g : ℕ) → firstOf (a ∷ b ∷ c ∷ d ∷ e ∷ f ∷ g ∷ []) ≡ first (first a (first b c)) (first d (first e (first f g)))
 unfolding firstOf
@@ -64,8 +60,8 @@ pick-same false x y h = refl
 pub pick-own : {A : Type 0} (own : Bool) (x y z : A) → z ≡ chosen own x y → own ≡ true → z ≡ x
 pick-own own x y z e o = rw o at e
 
-module _ (v : Volume) (dst src : File) (own : Bool) (s : Span) (list shared source table : List ℕ) (ch : Chosen own dst src list source) where
-  abbrev m : Span
+module _ (v : Volume) (dst src : File) (own : Bool) (s : CloneRange) (list shared source table : List ℕ) (ch : Chosen own dst src list source) where
+  abbrev m : CloneRange
   m = meant (src .size) s
 
   abbrev c : Copying
@@ -85,17 +81,17 @@ module _ (v : Volume) (dst src : File) (own : Bool) (s : Span) (list shared sour
   half f its bytes =
       refusedOr (first (listBroken bytes) (first (listBroken list) (tableBroken table)))
       (refusedOr
-      (firstOf (lentRefusal2 v dst f own (items list) shared its (rows table) ∷ sourceRefusal (v .sector) own (f .size) (dst .size) (s .from) (s .to) (resolved (f .size) (s .from) (s .length)) ∷ []))
+      (firstOf (lentRefusal2 v dst f own (items list) shared its (rows table) ∷ sourceRefusal (v .sector) (f .size) (s .from) (s .to) (resolved (f .size) (s .from) (s .length)) ∷ []))
       (cond (eqb (resolved (f .size) (s .from) (s .length)) 0) nothing
       (refusedOr
       (firstOf
-      (destinationRefusal (v .sector) own (f .size) (dst .size) (s .from) (s .to) (resolved (f .size) (s .from) (s .length))
+      (destinationRefusal (v .sector) own (dst .size) (s .from) (s .to) (resolved (f .size) (s .from) (s .length))
       ∷ stage destinationRecord (items list)
       ∷ growthRefusal (v .sector) (dst .size) (s .to) (resolved (f .size) (s .from) (s .length)) (items list)
-      ∷ dropsRefusal (rows table) (dropsOf (copyingOf (v .sector) (dst .number) (meant (f .size) s)) (items list) shared)
-      ∷ stage (λ (r : Ref). oneMoreReference (r .start) (rows table)) (splitsOf (copyingOf (v .sector) (dst .number) (meant (f .size) s)) (items list))
+      ∷ dropsRefusal (rows table) (cloneDrops (copyingOf (v .sector) (dst .number) (meant (f .size) s)) (items list) shared)
+      ∷ stage (λ (r : Ref). oneMoreReference (r .start) (rows table)) (cloneSplits (copyingOf (v .sector) (dst .number) (meant (f .size) s)) (items list))
       ∷ stage (sourceRecord (rows table) (copyingOf (v .sector) (dst .number) (meant (f .size) s))) its
-      ∷ unless (not (eqb (v .generation) (2 ^ 64 - 1))) 13
+      ∷ whenever (eqb (v .generation) (2 ^ 64 - 1)) 13
       ∷ []))
       (plan (planFor (copyingOf (v .sector) (dst .number) (meant (f .size) s)) (items list) shared its (rows table) (max (dst .size) (s .to + resolved (f .size) (s .from) (s .length))))))))
 
@@ -135,7 +131,7 @@ module _ (v : Volume) (dst src : File) (own : Bool) (s : Span) (list shared sour
     said-nothing h = behind ∙ rw (eq-eqb (m .length) 0 h) refl
 
     -- what the checks say
-    lent-zero : (lent2 v dst src own list shared source table ≡ 0) × (sourceRefusal (v .sector) own (src .size) (dst .size) (m .from) (m .to) (m .length) ≡ 0)
+    lent-zero : (lent2 v dst src own list shared source table ≡ 0) × (sourceRefusal (v .sector) (src .size) (m .from) (m .to) (m .length) ≡ 0)
     lent-zero = first-zero (lent2 v dst src own list shared source table) _ passed
 
     pub lent-facts : Accepted2 v dst src own (items list) shared (items source) (rows table)
@@ -171,12 +167,12 @@ module _ (v : Volume) (dst src : File) (own : Bool) (s : Span) (list shared sour
       asked-behind = behind ∙ rw (ne-eqb (m .length) 0 n) refl
 
       pub said-asked : (x : ℕ) → x ≡ asked → (x ≡ 0 → ⊥) → draftedLent v dst src own s list shared source table ≡ refused x
-      said-asked x p h = asked-behind ∙ sym (or-first asked copies (plan thePlan)) ∙ rw (← p) (or-some x _ h)
+      said-asked x p h = asked-behind ∙ sym (two-refused asked copies (plan thePlan)) ∙ rw (← p) (or-some x _ h)
 
       module _ (x : ℕ) (p : x ≡ asked) (h : x ≡ 0) where
         destination-ends : m .to + m .length < 2 ^ 63
         destination-ends =
-            let y = first-zero (destinationRefusal (v .sector) own 0 (dst .size) (m .from) (m .to) (m .length)) _ (sym p ∙ h) in
+            let y = first-zero (destinationRefusal (v .sector) own (dst .size) (m .from) (m .to) (m .length)) _ (sym p ∙ h) in
             let w = firstOf-zero _ (y .0) in
             ltb-true (m .to + m .length) (2 ^ 63) (unless-zero (ltb (m .to + m .length) (2 ^ 63)) 6 (w .0) (λ e. omega arith))
 
@@ -191,7 +187,7 @@ module _ (v : Volume) (dst src : File) (own : Bool) (s : Span) (list shared sour
         size-fits = omega (arith, destination-ends)
 
         pub said-copies : (y : ℕ) → y ≡ copies → (y ≡ 0 → ⊥) → draftedLent v dst src own s list shared source table ≡ refused y
-        said-copies y q k = asked-behind ∙ sym (or-first asked copies (plan thePlan)) ∙ or-none asked _ (sym p ∙ h) ∙ rw (← q) (or-some y _ k)
+        said-copies y q k = asked-behind ∙ sym (two-refused asked copies (plan thePlan)) ∙ or-none asked _ (sym p ∙ h) ∙ rw (← q) (or-some y _ k)
 
         pub said-plan : (y : ℕ) → y ≡ copies → y ≡ 0 → draftedLent v dst src own s list shared source table ≡ plan thePlan
-        said-plan y q k = asked-behind ∙ sym (or-first asked copies (plan thePlan)) ∙ or-none asked _ (sym p ∙ h) ∙ or-none copies _ (sym q ∙ k)
+        said-plan y q k = asked-behind ∙ sym (two-refused asked copies (plan thePlan)) ∙ or-none asked _ (sym p ∙ h) ∙ or-none copies _ (sym q ∙ k)

@@ -1,36 +1,38 @@
 // A clone: the list that is read as source (`source_list`), the refusals in order, and the operation, `clone_range`.
-use copies::Copying;
-use laying::Counts;
+use change_lay::Counts;
+use clone_items::Copying;
+use clone_span::CloneRange;
 use records::first;
-use records::unless;
+use records::refusal;
+use records::whenever;
 use request::Answer;
 use request::File;
 use request::Numbers;
 use request::Volume;
-use spans::Span;
 ghost use mathlib.Core.Bool.{false, true};
 ghost use mathlib.Core.List.{List, []};
 ghost use mathlib.Core.Path.{_≡_};
 ghost use Prim.Native.Nat.{ℕ, _+_, _-_, _<_, _^_};
 ghost use lib.ListN.{length};
+ghost use Rattle.records.specs.Lent.{old, new};
 ghost use Rattle.records.specs.Stages.{every};
 ghost use Rattle.item.specs.Items.{items};
-ghost use Rattle.segment.specs.Segments.{Runs};
+ghost use Rattle.cut_segment.specs.Segments.{Runs};
 ghost use Rattle.table.specs.Rows.{rows, tableKept};
 ghost use Rattle.request.specs.Lent.{sectorSound};
 ghost use Rattle.request.specs.Answers.{plan, said};
-ghost use Rattle.plan.specs.Plans.{numbers, told};
-ghost use Rattle.plan.specs.Outputs.{outs, roomsOf, Met};
-ghost use Rattle.copies.specs.Raw.{InFiles, rangeKept};
-ghost use Rattle.copies.specs.Replacing.{planFor};
-ghost use Rattle.cloning.specs.Raw.{Replacing};
-ghost use Rattle.spans.specs.Spans.{resolved};
-ghost use Rattle.clone_plan.specs.Clone.{chosen, withRoom, draftedLent, cloneLent};
+ghost use Rattle.plan_def.specs.Plans.{numbers, told};
+ghost use Rattle.plan_def.specs.Outputs.{four, Met};
+ghost use Rattle.clone_items.specs.Raw.{InFiles, rangeKept};
+ghost use Rattle.clone_items.specs.Replacing.{planFor};
+ghost use Rattle.clone_lay.specs.Raw.{Replacing};
+ghost use Rattle.clone_span.specs.Spans.{resolved};
+ghost use Rattle.clone_def.specs.Clone.{chosen, withRoom, draftedLent, cloneLent};
 ghost use Rattle.clone.specs.Raw.{meant, copyingOf, lentAsked, destinationAsked, copiesAsked, Chosen};
 
 // The list that is read as source: for one file cloned into itself the destination's.
 fn source_list<'a>(own: bool, list: &'a [u8], source: &'a [u8]) -> &'a [u8]
-    ensures { λ r. ⌜ now r ≡ chosen own (now (list .entry)) (now (source .entry)) ⌝ }
+    ensures { λ r. ⌜ now r ≡ chosen own (old list) (old source) ⌝ }
 {
     if own { list } else { source }
 }
@@ -48,42 +50,42 @@ fn lent_asked(
     dst: File,
     src: File,
     own: bool,
-    s: Span,
+    s: CloneRange,
     list: &[u8],
     shared: &[u8],
     source: &[u8],
     table: &[u64],
 ) -> u8
-    ensures { λ r. ⌜ r ≡ lentAsked v dst src own s (now (list .entry)) (now (shared .entry)) (now (source .entry)) (now (table .entry)) ⌝ }
+    ensures { λ r. ⌜ r ≡ lentAsked v dst src own s (old list) (old shared) (old source) (old table) ⌝ }
 {
     let lent = request::lent_refusal2(v, dst, src, own, list, shared, source, table);
     if lent != 0 {
         return lent;
     }
-    spans::source_refusal(v.sector, src.size, s)
+    clone_span::source_refusal(v.sector, src.size, s)
 }
 
 // Refusals 6, 23 and 24, those of the destination's records, and 25.
-fn destination_asked(sector: u64, own: bool, size: u64, s: Span, list: &[u8]) -> u8
+fn destination_asked(sector: u64, own: bool, size: u64, s: CloneRange, list: &[u8]) -> u8
     requires { ⌜ (sectorSound sector ≡ true) × (s .from + s .length < 2 ^ 63) ⌝ }
-    ensures { λ r. ⌜ r ≡ destinationAsked sector own size s (items (now (list .entry))) ⌝ }
+    ensures { λ r. ⌜ r ≡ destinationAsked sector own size s (items (old list)) ⌝ }
 {
-    let range = spans::destination_refusal(sector, own, size, s);
-    let grows = spans::growth_refusal(sector, size, s.to, s.length, list);
-    first(range, first(spans::destination_records(list), grows))
+    let range = clone_span::destination_refusal(sector, own, size, s);
+    let grows = clone_span::growth_refusal(sector, size, s.to, s.length, list);
+    first(range, first(clone_span::destination_records(list), grows))
 }
 
 // The refusals of drops, of splits and of the source's records, and 13. The shared bytes do not count.
 fn copies_asked(generation: u64, c: Copying, list: &[u8], source: &[u8], table: &[u64]) -> u8
     requires { ⌜ tableKept (rows (now table)) ≡ true ⌝ }
     requires { ⌜ InFiles c × (every rangeKept (items (now source)) ≡ true) × Runs 0 (items (now list)) ⌝ }
-    ensures { λ r. ⌜ ((bs : List ℕ) → length bs ≡ length (items (now (list .entry))) → r ≡ copiesAsked generation c (items (now (list .entry))) bs (items (now (source .entry))) (rows (now (table .entry)))) ⌝ }
+    ensures { λ r. ⌜ ((bs : List ℕ) → length bs ≡ length (items (old list)) → r ≡ copiesAsked generation c (items (old list)) bs (items (old source)) (rows (old table))) ⌝ }
 {
-    let k = cloning::cut_for(c);
-    let drop = touched::drops_refusal(k, list, table);
-    let split = touched::splits_refusal(list, table, k.lo, k.hi);
-    let records = copies::source_records(c, table, source);
-    let last = unless(generation != 18446744073709551615, 13);
+    let k = clone_lay::cut_for(c);
+    let drop = cut_touched::drops_refusal(k, list, table);
+    let split = cut_touched::splits_refusal(list, table, k.lo, k.hi);
+    let records = clone_items::source_records(c, table, source);
+    let last = whenever(generation == 18446744073709551615, refusal::GENERATION);
     first(drop, first(split, first(records, last)))
 }
 
@@ -109,18 +111,18 @@ fn numbers_of(n: Counts, size: u64) -> Numbers
 }
 
 // The span with the length that is meant.
-fn meant(size: u64, s: Span) -> Span
+fn meant(size: u64, s: CloneRange) -> CloneRange
     ensures { λ r. ⌜ r ≡ meant size s ⌝ }
 {
-    Span {
+    CloneRange {
         from: s.from,
         to: s.to,
-        length: spans::resolved(size, s.from, s.length),
+        length: clone_span::resolved(size, s.from, s.length),
     }
 }
 
 // What is copied, by a span whose length is the one that is meant.
-fn copying_of(sector: u64, number: u64, s: Span) -> Copying
+fn copying_of(sector: u64, number: u64, s: CloneRange) -> Copying
     requires { ⌜ (sectorSound sector ≡ true) × (s .from + s .length < 2 ^ 63) ⌝ }
     ensures { λ r. ⌜ r ≡ copyingOf sector number s ⌝ }
 {
@@ -128,7 +130,7 @@ fn copying_of(sector: u64, number: u64, s: Span) -> Copying
         number,
         from: s.from,
         to: s.to,
-        span: spans::span_of(sector, s.from, s.length),
+        span: clone_span::span_of(sector, s.from, s.length),
     }
 }
 
@@ -142,13 +144,13 @@ fn count_clone(
     table: &[u64],
 ) -> Numbers
     requires { ⌜ Replacing c (now list) (now shared) (now source) (now table) ⌝ }
-    ensures { λ r. ⌜ r ≡ numbers (planFor c (items (now (list .entry))) (now (shared .entry)) (items (now (source .entry))) (rows (now (table .entry))) size) ⌝ }
+    ensures { λ r. ⌜ r ≡ numbers (planFor c (items (old list)) (old shared) (items (old source)) (rows (old table)) size) ⌝ }
 {
     let mut e = [0u8; 1];
     let mut s = [0u64; 1];
     let mut u = [0u64; 1];
     let mut r = [0u64; 1];
-    let n = cloning::lay_clone(
+    let n = clone_lay::lay_clone(
         c,
         list,
         shared,
@@ -168,14 +170,14 @@ fn draft_clone(
     dst: File,
     src: File,
     own: bool,
-    s: Span,
+    s: CloneRange,
     list: &[u8],
     shared: &[u8],
     source: &[u8],
     table: &[u64],
 ) -> Answer
     requires { ⌜ Chosen own dst src (now list) (now source) ⌝ }
-    ensures { λ r. ⌜ said r ≡ told (draftedLent v dst src own s (now (list .entry)) (now (shared .entry)) (now (source .entry)) (now (table .entry))) ⌝ }
+    ensures { λ r. ⌜ said r ≡ told (draftedLent v dst src own s (old list) (old shared) (old source) (old table)) ⌝ }
 {
     let m = meant(src.size, s);
     let lent = lent_asked(v, dst, src, own, m, list, shared, source, table);
@@ -212,9 +214,9 @@ fn finish_clone(
     releases: &mut [u64],
 ) -> Answer
     requires { ⌜ Replacing c (now list) (now shared) (now source) (now table) × (n ≡ numbers (planFor c (items (now list)) (now shared) (items (now source)) (rows (now table)) (n .size))) ⌝ }
-    ensures { λ r. ⌜ Met (c .number) (withRoom (roomsOf (outs (now (edits .entry)) (now (shares .entry)) (now (unrefs .entry)) (now (releases .entry)) [] [])) (plan (planFor c (items (now (list .entry))) (now (shared .entry)) (items (now (source .entry))) (rows (now (table .entry))) (n .size)))) r (outs (now (edits .entry)) (now (shares .entry)) (now (unrefs .entry)) (now (releases .entry)) [] []) (outs (now (edits .exit)) (now (shares .exit)) (now (unrefs .exit)) (now (releases .exit)) [] []) ⌝ }
+    ensures { λ r. ⌜ Met (c .number) (λ rooms. withRoom rooms (plan (planFor c (items (old list)) (old shared) (items (old source)) (rows (old table)) (n .size)))) r (four edits shares unrefs releases) ⌝ }
 {
-    let short = places::room_refusal(
+    let short = plan_places::room_refusal(
         n,
         edits.len(),
         shares.len(),
@@ -226,7 +228,7 @@ fn finish_clone(
     if short != 0 {
         return Answer::Refused(short);
     }
-    cloning::lay_clone(
+    clone_lay::lay_clone(
         c,
         list,
         shared,
@@ -249,7 +251,7 @@ pub fn clone_range<'a>(
     dst: File,
     src: File,
     own: bool,
-    s: Span,
+    s: CloneRange,
     list: &'a [u8],
     shared: &[u8],
     source: &'a [u8],
@@ -259,7 +261,7 @@ pub fn clone_range<'a>(
     unrefs: &mut [u64],
     releases: &mut [u64],
 ) -> Answer
-    ensures { λ r. ⌜ Met (dst .number) (cloneLent v dst src own s (now (list .entry)) (now (shared .entry)) (now (source .entry)) (now (table .entry)) (roomsOf (outs (now (edits .entry)) (now (shares .entry)) (now (unrefs .entry)) (now (releases .entry)) [] []))) r (outs (now (edits .entry)) (now (shares .entry)) (now (unrefs .entry)) (now (releases .entry)) [] []) (outs (now (edits .exit)) (now (shares .exit)) (now (unrefs .exit)) (now (releases .exit)) [] []) ⌝ }
+    ensures { λ r. ⌜ Met (dst .number) (cloneLent v dst src own s (old list) (old shared) (old source) (old table)) r (four edits shares unrefs releases) ⌝ }
 {
     let from = source_list(own, list, source);
     let file = source_file(own, dst, src);

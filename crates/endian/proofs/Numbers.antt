@@ -6,7 +6,8 @@ use native.Mathlib.Omega.{arith}
 use native.Mathlib.Nat.{add-suc, add-zero}
 use lib.ListN.{length, getD, take, drop}
 use lib.Seq.{take-nil, drop-drop, getD-take}
-use Rattle.endian.specs.Le.{le, num, enc, room, Bytes, sum8}
+use Rattle.endian.specs.Le.{le, num, enc, room, Bytes}
+use Rattle.endian.specs.Raw.{sum8}
 
 pub length-enc : (w v : ℕ) → length (enc w v) ≡ w
 unfolding enc

@@ -29,8 +29,3 @@ room (suc w) = 256 * room w
 -- every element is a byte
 abbrev pub Bytes : List ℕ → Type 0
 Bytes s = (i : ℕ) → getD s i 0 < 256
-
--- eight bytes, summed as the code sums them
-abbrev pub sum8 : List ℕ → ℕ → ℕ
-sum8 s at =
-    getD s at 0 + 256 * (getD s (at + 1) 0 + 256 * (getD s (at + 2) 0 + 256 * (getD s (at + 3) 0 + 256 * (getD s (at + 4) 0 + 256 * (getD s (at + 5) 0 + 256 * (getD s (at + 6) 0 + 256 * getD s (at + 7) 0))))))

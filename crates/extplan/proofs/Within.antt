@@ -4,7 +4,7 @@ use Prim.Native.Nat.{ℕ, _+_, _≤_}
 use native.Mathlib.Omega.{arith}
 use lib.ListN.{length, take, drop, length-append}
 use Rattle.endian.specs.Le.{put}
-use Rattle.digits.specs.Text.{Added}
+use Rattle.print_field.specs.Text.{Added}
 
 pub within : (bytes : List ℕ) (d : List ℕ) (k : ℕ) (d′ : List ℕ) → Added bytes 0 d k d′ → k ≤ length d′
 unfolding put

@@ -1,13 +1,13 @@
 // extplan: reads a request from standard input and prints its plan, "(nothing)", "(refused N)" or "(line N)" (document 01,
-// "extplan"). The library `replies` reads, plans and prints; here are the buffers, reading and writing.
+// "extplan"). The library `extplan_reply` reads, plans and prints; here are the buffers, reading and writing.
+use extplan_reply::Reply;
 use libc::STDIN_FILENO;
 use libc::STDOUT_FILENO;
-use replies::Reply;
 ghost use mathlib.Core.Path.{_≡_};
 ghost use Prim.Native.Nat.{_≤_};
 ghost use lib.ListN.{length};
-ghost use Rattle.plan.specs.Outputs.{outs};
-ghost use Rattle.replies.specs.Replies.{Replied};
+ghost use Rattle.plan_def.specs.Outputs.{outs};
+ghost use Rattle.extplan_reply.specs.Replies.{Replied};
 
 // Writes the first k bytes of a buffer, and says whether it could.
 fn write_part(line: &[u8], k: usize) -> bool
@@ -36,7 +36,7 @@ fn write_line(
     requires { ⌜ Replied (now input) r (outs (now edits) (now shares) (now unrefs) (now releases) (now adds) (now writes)) ⌝ }
     requires { ⌜ 256 ≤ length (now line) ⌝ }
 {
-    let k = replies::reply_line(
+    let k = extplan_reply::reply_line(
         input,
         r,
         edits,
@@ -118,7 +118,7 @@ fn answer(input: &[u8])
     let mut adds = [0u64; 19659];
     let mut writes = [0u64; 8];
     let mut line = [0u8; 256];
-    let r = replies::answer(
+    let r = extplan_reply::answer(
         input,
         &mut items,
         &mut shared,
@@ -148,7 +148,7 @@ fn answer(input: &[u8])
 fn refuse_length() {
     let mut room = [0u8; 256];
     let line: &mut [u8] = &mut room;
-    let k = answers::put_fault(0, line);
+    let k = print_answer::put_fault(0, line);
     write_part(line, k);
 }
 

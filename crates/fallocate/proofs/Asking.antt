@@ -6,21 +6,21 @@ use Prim.Native.Nat.{ℕ, _+_, _/_, _<_, max}
 use lib.Dec.{eqb, leb, ltb}
 use lib.ListN.{length}
 use Rattle.records.specs.Select.{only}
-use Rattle.records.specs.Stages.{unless, first, stage}
+use Rattle.records.specs.Stages.{whenever, first, stage}
 use Rattle.records.proofs.Loops.{rest}
 use Rattle.records.proofs.Tests.{cond-yes, cond-no}
 use Rattle.item.specs.Items.{Fields, items, decode, hole, end}
 use Rattle.item.proofs.Laws.{rest-items}
-use Rattle.segment.specs.Segments.{Runs}
-use Rattle.change.specs.Rounding.{roundDown, roundUp}
-use Rattle.change.specs.Preallocs.{Span}
-use Rattle.change.specs.declared.Rewrite.{Rewrite}
-use Rattle.change.specs.declared.RangeChange.{RangeChange}
-use Rattle.change.specs.declared.Fill.{Fill}
-use Rattle.change.specs.Changes.{Change}
-use Rattle.change.specs.Sweep.{filledOf}
-use Rattle.fallocate_plan.specs.Fallocate.{endRewritten, endSector, endStop, newSize, itemRefusal, fallocateChange}
-use Rattle.fallocate.specs.Raw.{itemBetween, endChange, fillOf}
+use Rattle.cut_segment.specs.Segments.{Runs}
+use Rattle.change_def.specs.Rounding.{roundDown, roundUp}
+use Rattle.change_def.specs.Preallocs.{Stretch}
+use Rattle.change_def.specs.declared.Rewrite.{Rewrite}
+use Rattle.change_def.specs.declared.RangeChange.{RangeChange}
+use Rattle.change_def.specs.declared.Fill.{Fill}
+use Rattle.change_def.specs.Changes.{Change}
+use Rattle.change_def.specs.Sweep.{filledOf}
+use Rattle.fallocate_def.specs.Fallocate.{endRewritten, endSector, endStop, newSize, itemRefusal, fallocateChange}
+use Rattle.fallocate.specs.Raw.{endChange, fillOf}
 use Rattle.fallocate.proofs.Sweep.{holes-swept}
 
 -- ---- the structs
@@ -62,8 +62,8 @@ filled-is keep size sector offset stop pos some fs r =
     z : Rewrite
     z = endChange size sector stop .back
 
-    with : List Rewrite → List Span → Change
-    with ws hs = record { lo = endSector size sector offset stop; hi = endStop size sector offset stop; rewrites = ws; holes = hs; size = newSize keep size stop }
+    with : List Rewrite → List Stretch → Change
+    with ws hs = record { lo = endSector size sector stop; hi = endStop size sector stop; rewrites = ws; holes = hs; size = newSize keep size stop }
 
 -- ---- 10 and 11
 
@@ -73,15 +73,15 @@ module _ (size lo hi : ℕ) (f : Fields) (l : ℕ) (p t : Bool) (pl : l ≡ f .l
 
   pub item-meets :
       (x y h k : ℕ) (b d : Bool)
-      → t ≡ true → b ≡ hole f → h ≡ unless (not b) 10 → k ≡ f .kind → d ≡ (eqb k 1 && leb size (f .key)) → y ≡ unless (not d) 11 → x ≡ first h y
-      → x ≡ itemBetween size lo hi f
+      → t ≡ true → b ≡ hole f → h ≡ whenever b 10 → k ≡ f .kind → d ≡ (eqb k 1 && leb size (f .key)) → y ≡ whenever d 11 → x ≡ first h y
+      → x ≡ itemRefusal size lo hi f
   item-meets x y h k b d e pb ph pk pd py px = rw (px, ph, py, pb, pd, pk) (cond-yes t (ltb lo (end f) && ltb (f .key) hi) _ 0 meets e)
 
-  pub item-aside : t ≡ false → 0 ≡ itemBetween size lo hi f
+  pub item-aside : t ≡ false → 0 ≡ itemRefusal size lo hi f
   item-aside e = cond-no t (ltb lo (end f) && ltb (f .key) hi) _ 0 meets e
 
 -- the loop over the items starts with the range rounded
 pub items-start :
     (size s offset stop lo hi : ℕ) (list : List ℕ) → lo ≡ roundDown s offset → hi ≡ roundUp s stop
-    → stage (itemBetween size lo hi) (rest decode 70 list (length list / 70) 0) ≡ stage (itemRefusal size s offset stop) (items list)
+    → stage (itemRefusal size lo hi) (rest decode 70 list (length list / 70) 0) ≡ stage (itemRefusal size (roundDown s offset) (roundUp s stop)) (items list)
 items-start size s offset stop lo hi list p q = rw (p, q, rest-items) refl

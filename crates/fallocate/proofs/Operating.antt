@@ -6,6 +6,7 @@ use Prim.Native.Nat.{ℕ, zero, suc, _+_}
 use native.Mathlib.Omega.{arith}
 use lib.ListN.{length}
 use borrow.Author.Tests.{leb-true}
+use Rattle.plan_def.proofs.Outcomes.{two-refused}
 use Rattle.records.specs.Stages.{first}
 use Rattle.item.specs.Items.{Fields, items}
 use Rattle.table.specs.Rows.{rows}
@@ -15,23 +16,23 @@ use Rattle.request.specs.declared.Range.{Range}
 use Rattle.request.specs.Lent.{listBroken, tableBroken}
 use Rattle.request.specs.Answers.{Outcome, plan, nothing, refused}
 use Rattle.request.proofs.Stages.{sector-some}
-use Rattle.plan.specs.Plans.{Plan, refusedOr}
-use Rattle.plan.specs.Outputs.{Rooms}
-use Rattle.change.specs.declared.RangeChange.{RangeChange}
-use Rattle.change.specs.declared.Fill.{Fill}
-use Rattle.change.specs.Preallocs.{pieceLimit}
-use Rattle.change.specs.Rewrites.{groundOf}
-use Rattle.change.specs.Changes.{Change, changed}
-use Rattle.change.specs.Sweep.{filledOf}
-use Rattle.change.proofs.Fair.{Fair}
-use Rattle.drafts.specs.Raw.{Asked}
+use Rattle.plan_def.specs.Plans.{Plan, refusedOr}
+use Rattle.plan_def.specs.Outputs.{Rooms}
+use Rattle.change_def.specs.declared.RangeChange.{RangeChange}
+use Rattle.change_def.specs.declared.Fill.{Fill}
+use Rattle.change_def.specs.Preallocs.{pieceLimit}
+use Rattle.change_def.specs.Rewrites.{groundOf}
+use Rattle.change_def.specs.Changes.{Change, changed}
+use Rattle.change_def.specs.Sweep.{filledOf}
+use Rattle.change_def.proofs.Fair.{Fair}
+use Rattle.change_draft.specs.Raw.{Asked}
 use Rattle.punch.specs.Raw.{rangeLent}
-use Rattle.punch_plan.proofs.Planned.{records-ranged, ground-items, ground-sound}
-use Rattle.punch.proofs.Operating.{passed, shares-many, two-refused, refuses, passes}
-use Rattle.fallocate_plan.specs.Fallocate.{fallocateChange, fallocateRefusal, fallocate, fallocateLent}
+use Rattle.punch_def.proofs.Planned.{records-ranged, ground-items, ground-sound}
+use Rattle.punch.proofs.Operating.{passed, shares-many, refuses, passes}
+use Rattle.fallocate_def.specs.Fallocate.{fallocateChange, fallocateRefusal, fallocate, fallocateLent}
 use Rattle.fallocate.specs.Raw.{endChange, fillOf, refusalLent}
 use Rattle.fallocate.proofs.Asking.{filled-is}
-use Rattle.fallocate_plan.proofs.Fair.{fair}
+use Rattle.fallocate_def.proofs.Fair.{fair}
 use Rattle.fallocate.proofs.Refusing.{Fit, fit, range-passed}
 
 -- a refusal, or a plan: never nothing to do

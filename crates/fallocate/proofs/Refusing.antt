@@ -7,7 +7,7 @@ use native.Mathlib.Omega.{arith}
 use lib.Dec.{eqb, leb}
 use borrow.Author.Tests.{eqb-false, not-true, ltb-true}
 use Rattle.records.specs.Stages.{unless, first, firstOf, stage}
-use Rattle.records.proofs.Tests.{first-stop, first-go, first-last, first-assoc, first-zero, firstOf-zero, unless-zero}
+use Rattle.records.proofs.Tests.{first-stop, first-go, first-last, first-assoc, first-zero, firstOf-zero, whenever-zero, unless-zero}
 use Rattle.item.specs.Items.{Fields, items}
 use Rattle.table.specs.Rows.{rows}
 use Rattle.request.specs.declared.Volume.{Volume}
@@ -15,21 +15,22 @@ use Rattle.request.specs.declared.File.{File}
 use Rattle.request.specs.declared.Range.{Range}
 use Rattle.request.specs.Lent.{sectorSound, listBroken, tableBroken}
 use Rattle.request.proofs.Stages.{sector-some}
-use Rattle.segment.specs.Segments.{Runs}
-use Rattle.segment.proofs.Segments.{kept-runs}
-use Rattle.change.specs.Preallocs.{sumOf}
-use Rattle.change.specs.declared.RangeChange.{RangeChange}
-use Rattle.change.specs.declared.Fill.{Fill}
-use Rattle.change.specs.Sweep.{sweep}
-use Rattle.change.proofs.Rounding.{up-limit, sector-limit}
-use Rattle.change.proofs.Sweep.{sum-some}
-use Rattle.punch_plan.specs.Punch.{rangeRefusal}
+use Rattle.cut_segment.specs.Segments.{Runs}
+use Rattle.cut_segment.proofs.Segments.{kept-runs}
+use Rattle.change_def.specs.Preallocs.{sumOf}
+use Rattle.change_def.specs.declared.RangeChange.{RangeChange}
+use Rattle.change_def.specs.declared.Fill.{Fill}
+use Rattle.change_def.specs.Sweep.{sweep}
+use Rattle.change_def.proofs.Rounding.{up-limit, sector-limit}
+use Rattle.change_def.proofs.Sweep.{sum-some}
+use Rattle.punch_def.specs.Punch.{rangeRefusal}
 use Rattle.punch.specs.Raw.{rangeLent}
-use Rattle.punch_plan.proofs.Planned.{records-ranged}
+use Rattle.punch_def.proofs.Planned.{records-ranged}
 use Rattle.punch.proofs.Operating.{passed}
-use Rattle.fallocate_plan.specs.Fallocate.{itemRefusal, holesToAllocate, fallocateRefusal}
+use Rattle.change_def.specs.Rounding.{roundDown, roundUp}
+use Rattle.fallocate_def.specs.Fallocate.{itemRefusal, holesToAllocate, fallocateRefusal}
 use Rattle.fallocate.specs.Raw.{endChange, fillOf, refusalLent}
-use Rattle.fallocate_plan.proofs.Holes.{holes-sum}
+use Rattle.fallocate_def.proofs.Holes.{holes-sum}
 use Rattle.fallocate.proofs.Sweep.{holes-swept}
 
 -- ---- the sum of the holes
@@ -66,7 +67,7 @@ module _ (v : Volume) (f : File) (r : Range) (list shared table : List ℕ) wher
   fit h =
       let p = passed v f r list shared table h in
       let z = firstOf-zero _ (first-zero _ _ h .1) in
-      let n = eqb-false (r .length) 0 (not-true (eqb (r .length) 0) (unless-zero (not (eqb (r .length) 0)) 5 (z .1 .0) (λ e. omega arith))) in
+      let n = eqb-false (r .length) 0 (whenever-zero (eqb (r .length) 0) 5 (z .1 .0) (λ e. omega arith)) in
       record {
         sector = p .accepted .sector;
         size = ltb-true (f .size) (2 ^ 63) (p .accepted .size);
@@ -76,7 +77,7 @@ module _ (v : Volume) (f : File) (r : Range) (list shared table : List ℕ) wher
       }
 
   abbrev perItem : ℕ
-  perItem = stage (itemRefusal (f .size) (v .sector) (r .offset) stop) (items list)
+  perItem = stage (itemRefusal (f .size) (roundDown (v .sector) (r .offset)) (roundUp (v .sector) stop)) (items list)
 
   abbrev sum : ℕ
   sum = sumOf (holesToAllocate (f .size) (v .sector) (r .offset) stop (items list))

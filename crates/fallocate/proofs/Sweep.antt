@@ -12,21 +12,21 @@ use Rattle.records.proofs.Tests.{both, same}
 use Rattle.records.proofs.Lists.{flat-append}
 use Rattle.records.proofs.Picks.{keep-all, keep-append}
 use Rattle.item.specs.Items.{Fields, end}
-use Rattle.segment.specs.Segments.{Runs}
-use Rattle.change.specs.Preallocs.{Span}
-use Rattle.change.specs.Sweep.{upTo, gapsFrom, gaps, halves, sweep, holesIn}
-use Rattle.change.specs.Rounding.{roundDown}
-use Rattle.change.proofs.Rounding.{down-below, up-above}
-use Rattle.change.proofs.Sweep.{some}
-use Rattle.fallocate_plan.specs.Fallocate.{endRewritten, less, lessItems, from, to, endSector, endStop, holesToAllocate}
+use Rattle.cut_segment.specs.Segments.{Runs}
+use Rattle.change_def.specs.Preallocs.{Stretch}
+use Rattle.change_def.specs.Sweep.{upTo, gapsFrom, gaps, halves, sweep, holesIn}
+use Rattle.change_def.specs.Rounding.{roundDown, roundUp}
+use Rattle.change_def.proofs.Rounding.{down-below, up-above}
+use Rattle.change_def.proofs.Sweep.{some}
+use Rattle.fallocate_def.specs.Fallocate.{endRewritten, less, lessItems, endSector, endStop, holesToAllocate}
 
 -- ---- one stretch
 
 -- it, if it has bytes
-abbrev one : Span → List Span
+abbrev one : Stretch → List Stretch
 one s = keep some (s ∷ [])
 
-abbrev piece : (a b : ℕ) → List Span
+abbrev piece : (a b : ℕ) → List Stretch
 piece a b = one (upTo a b)
 
 piece-none : (a b : ℕ) → b ≤ a → piece a b ≡ []
@@ -37,7 +37,7 @@ piece-none a b h = rw (le-ltb 0 (b - a) (omega arith)) refl
 piece-same : (a b c d : ℕ) → a ≡ c → b - a ≡ d - c → piece a b ≡ piece c d
 piece-same a b c d p q = ap one (alike (b - a) (d - c) q)
   where
-    alike : (m n : ℕ) → m ≡ n → _≡_ {A = Span} (record { start = a; length = m }) (record { start = c; length = n })
+    alike : (m n : ℕ) → m ≡ n → _≡_ {A = Stretch} (record { start = a; length = m }) (record { start = c; length = n })
     alike m n e = rw (p, e) refl
 
 only-piece : (a b : ℕ) → only (ltb a b) (upTo a b) ≡ piece a b
@@ -58,15 +58,15 @@ only-piece a b = rw alike (go (ltb 0 (b - a)))
 
 module _ (a b : ℕ) where
   -- its halves are left, if they have bytes
-  less-halves : (s : Span) → less a b s ≡ keep some (halves a b s)
+  less-halves : (s : Stretch) → less a b s ≡ keep some (halves a b s)
   less-halves s =
       let x : ℕ = s .start in
       let y : ℕ = s .start + s .length in
-      ap (λ (l : List Span). l ++ only (ltb (max x b) y) (upTo (max x b) y)) (only-piece x (min y a))
-      ∙ ap (λ (l : List Span). piece x (min y a) ++ l) (only-piece (max x b) y)
+      ap (λ (l : List Stretch). l ++ only (ltb (max x b) y) (upTo (max x b) y)) (only-piece x (min y a))
+      ∙ ap (λ (l : List Stretch). piece x (min y a) ++ l) (only-piece (max x b) y)
       ∙ sym (keep-append some (upTo x (min y a) ∷ []) (upTo (max x b) y ∷ []))
 
-  less-one : (s : Span) → flatMap (less a b) (one s) ≡ keep some (halves a b s)
+  less-one : (s : Stretch) → flatMap (less a b) (one s) ≡ keep some (halves a b s)
   unfolding keep flatMap
   less-one s = go (some s) refl
     where
@@ -81,35 +81,35 @@ module _ (a b : ℕ) where
       go false e =
           let z = ltb-false 0 (s .length) e in
           sym (keep-append some (upTo x (min y a) ∷ []) (upTo (max x b) y ∷ [])
-          ∙ ap (λ (l : List Span). l ++ piece (max x b) y) (piece-none x (min y a) (omega arith))
+          ∙ ap (λ (l : List Stretch). l ++ piece (max x b) y) (piece-none x (min y a) (omega arith))
           ∙ piece-none (max x b) y (omega arith))
 
   less-piece : (c d : ℕ) → flatMap (less a b) (piece c d) ≡ piece c (min d a) ++ piece (max c b) d
   less-piece c d =
       less-one (upTo c d)
       ∙ keep-append some (upTo c (min (c + (d - c)) a) ∷ []) (upTo (max c b) (c + (d - c)) ∷ [])
-      ∙ ap (λ (l : List Span). l ++ piece (max c b) (c + (d - c))) (piece-same c (min (c + (d - c)) a) c (min d a) refl (omega arith))
-      ∙ ap (λ (l : List Span). piece c (min d a) ++ l) (piece-same (max c b) (c + (d - c)) (max c b) d refl (omega arith))
+      ∙ ap (λ (l : List Stretch). l ++ piece (max c b) (c + (d - c))) (piece-same c (min (c + (d - c)) a) c (min d a) refl (omega arith))
+      ∙ ap (λ (l : List Stretch). piece c (min d a) ++ l) (piece-same (max c b) (c + (d - c)) (max c b) d refl (omega arith))
 
   -- and so out of several
-  less-all : (ss : List Span) → flatMap (less a b) (keep some ss) ≡ keep some (flatMap (halves a b) ss)
+  less-all : (ss : List Stretch) → flatMap (less a b) (keep some ss) ≡ keep some (flatMap (halves a b) ss)
   unfolding flatMap keep
   less-all [] = refl
   less-all (s ∷ ss) =
       ap (flatMap (less a b)) (keep-append some (s ∷ []) ss)
       ∙ flat-append (less a b) (one s) (keep some ss)
-      ∙ ap (λ (l : List Span). l ++ flatMap (less a b) (keep some ss)) (less-one s)
-      ∙ ap (λ (l : List Span). keep some (halves a b s) ++ l) (less-all ss)
+      ∙ ap (λ (l : List Stretch). l ++ flatMap (less a b) (keep some ss)) (less-one s)
+      ∙ ap (λ (l : List Stretch). keep some (halves a b s) ++ l) (less-all ss)
       ∙ sym (keep-append some (halves a b s) (flatMap (halves a b) ss))
 
 -- nothing taken out
-less-nothing : (ss : List Span) → keep some (flatMap (halves 0 0) ss) ≡ keep some ss
+less-nothing : (ss : List Stretch) → keep some (flatMap (halves 0 0) ss) ≡ keep some ss
 unfolding flatMap keep
 less-nothing [] = refl
 less-nothing (s ∷ ss) =
     keep-append some (halves 0 0 s) (flatMap (halves 0 0) ss)
-    ∙ ap (λ (l : List Span). l ++ keep some (flatMap (halves 0 0) ss)) all
-    ∙ ap (λ (l : List Span). one s ++ l) (less-nothing ss)
+    ∙ ap (λ (l : List Stretch). l ++ keep some (flatMap (halves 0 0) ss)) all
+    ∙ ap (λ (l : List Stretch). one s ++ l) (less-nothing ss)
     ∙ sym (keep-append some (s ∷ []) ss)
   where
     x : ℕ
@@ -127,12 +127,12 @@ less-nothing (s ∷ ss) =
     all : keep some (halves 0 0 s) ≡ one s
     all =
         keep-append some (upTo x (min y 0) ∷ []) (upTo (max x 0) y ∷ [])
-        ∙ ap (λ (l : List Span). l ++ piece (max x 0) y) (piece-none x (min y 0) (omega arith))
+        ∙ ap (λ (l : List Stretch). l ++ piece (max x 0) y) (piece-none x (min y 0) (omega arith))
         ∙ ap one alike
 
 -- ---- items taken out
 
-items-append : (fs : List Fields) (k l : List Span) → lessItems fs (k ++ l) ≡ lessItems fs k ++ lessItems fs l
+items-append : (fs : List Fields) (k l : List Stretch) → lessItems fs (k ++ l) ≡ lessItems fs k ++ lessItems fs l
 unfolding lessItems
 items-append [] k l = refl
 items-append (f ∷ fs) k l = ap (lessItems fs) (flat-append (less (f .key) (end f)) k l) ∙ items-append fs (flatMap (less (f .key) (end f)) k) (flatMap (less (f .key) (end f)) l)
@@ -146,8 +146,8 @@ items-before b c d (f ∷ fs) r h = ap (lessItems fs) stays ∙ items-before (en
     stays : flatMap (less (f .key) (end f)) (piece c d) ≡ piece c d
     stays =
         less-piece (f .key) (end f) c d
-        ∙ ap (λ (l : List Span). l ++ piece (max c (end f)) d) (piece-same c (min d (f .key)) c d refl (omega (arith, r .0)))
-        ∙ ap (λ (l : List Span). piece c d ++ l) (piece-none (max c (end f)) d (omega (arith, r .0)))
+        ∙ ap (λ (l : List Stretch). l ++ piece (max c (end f)) d) (piece-same c (min d (f .key)) c d refl (omega (arith, r .0)))
+        ∙ ap (λ (l : List Stretch). piece c d ++ l) (piece-none (max c (end f)) d (omega (arith, r .0)))
         ∙ append-nil (piece c d)
 
 module _ (from to : ℕ) where
@@ -159,9 +159,9 @@ module _ (from to : ℕ) where
       let x : ℕ = max from (end f) in
       ap (lessItems fs) (less-piece (f .key) (end f) a to)
       ∙ items-append fs (piece a (min to (f .key))) (piece (max a (end f)) to)
-      ∙ ap (λ (l : List Span). l ++ lessItems fs (piece (max a (end f)) to))
+      ∙ ap (λ (l : List Stretch). l ++ lessItems fs (piece (max a (end f)) to))
       (items-before (end f) a (min to (f .key)) fs (r .4) (omega arith) ∙ piece-same a (min to (f .key)) a (min (f .key) to) refl (omega arith))
-      ∙ ap (λ (l : List Span). piece a (min (f .key) to) ++ l)
+      ∙ ap (λ (l : List Stretch). piece a (min (f .key) to) ++ l)
       (ap (lessItems fs) (piece-same (max a (end f)) to x to (omega (arith, r .0, h)) (omega (arith, r .0, h))) ∙ items-gaps x (end f) fs (r .4) refl)
       ∙ sym (keep-append some (upTo a (min (f .key) to) ∷ []) (gapsFrom from to x fs))
 
@@ -176,15 +176,15 @@ module _ (from to : ℕ) where
 
 module _ (size sector offset stop : ℕ) (pos : 0 < sector) (order : offset < stop) where
   pub holes-swept : (fs : List Fields) → Runs 0 fs → holesToAllocate size sector offset stop fs
-      ≡ holesIn (endSector size sector offset stop) (endStop size sector offset stop) (from size sector offset stop) (to size sector offset stop) fs
+      ≡ holesIn (endSector size sector stop) (endStop size sector stop) (roundDown sector offset) (roundUp sector stop) fs
   unfolding holesToAllocate
   holes-swept fs r = go (endRewritten sector size stop)
     where
       lo : ℕ
-      lo = from size sector offset stop
+      lo = roundDown sector offset
 
       hi : ℕ
-      hi = to size sector offset stop
+      hi = roundUp sector stop
 
       all : lessItems fs (upTo lo hi ∷ []) ≡ keep some (gaps lo hi fs)
       all = items-swept lo hi fs r (omega (arith, down-below sector pos offset, up-above sector pos stop))

@@ -1,26 +1,18 @@
 -- What the structs and private functions of this crate say, in the terms of the definitions.
-use mathlib.Core.Bool.{Bool, false, cond, _&&_, not}
+use mathlib.Core.Bool.{Bool, false, cond}
 use mathlib.Core.List.{List}
 use Prim.Native.Nat.{ℕ, _+_}
-use lib.Dec.{eqb, leb, ltb}
-use Rattle.records.specs.Stages.{unless, first}
-use Rattle.item.specs.Items.{Fields, items, hole, end}
+use Rattle.records.specs.Stages.{first}
+use Rattle.item.specs.Items.{items}
 use Rattle.table.specs.Rows.{rows}
 use Rattle.request.specs.declared.Volume.{Volume}
 use Rattle.request.specs.declared.File.{File}
 use Rattle.request.specs.declared.Range.{Range}
 use Rattle.request.specs.Lent.{listBroken, tableBroken}
-use Rattle.change.specs.Rounding.{roundDown, roundUp}
-use Rattle.change.specs.declared.RangeChange.{RangeChange}
-use Rattle.change.specs.declared.Fill.{Fill}
-use Rattle.fallocate_plan.specs.Fallocate.{endRewritten, newSize, fallocateRefusal}
-
--- 10 and 11 of an item, for the rounded range [lo, hi)
-abbrev pub itemBetween : (size lo hi : ℕ) → Fields → ℕ
-itemBetween size lo hi f =
-    cond (ltb lo (end f) && ltb (f .key) hi)
-    (first (unless (not (hole f)) 10) (unless (not (eqb (f .kind) 1 && leb size (f .key))) 11))
-    0
+use Rattle.change_def.specs.Rounding.{roundDown, roundUp}
+use Rattle.change_def.specs.declared.RangeChange.{RangeChange}
+use Rattle.change_def.specs.declared.Fill.{Fill}
+use Rattle.fallocate_def.specs.Fallocate.{endRewritten, newSize, fallocateRefusal}
 
 -- the old end's sector, cut and rewritten if it has to be
 abbrev pub endChange : (size sector stop : ℕ) → RangeChange

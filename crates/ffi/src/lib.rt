@@ -1,29 +1,30 @@
 // The operations for C: numbers and slices in, a byte out. A slice is a pointer and a length; no output overlaps another
 // slice. The byte is 0 for a plan, 100 for nothing to do, else the refusal's number. `answer` receives the nine numbers of a
 // plan: edits, shares, unrefs, releases, adds and writes as counts, size, bytes, prealloc as 0 or 1.
+use clone_span::CloneRange;
+use records::refusal;
 use request::Answer;
 use request::File;
 use request::Numbers;
 use request::Range;
 use request::Volume;
-use spans::Span;
 ghost use mathlib.Core.Bool.{false};
-ghost use mathlib.Core.List.{[]};
 ghost use mathlib.Core.Path.{_≡_};
 ghost use Prim.Native.Nat.{_≤_};
 ghost use lib.ListN.{length};
+ghost use Rattle.records.specs.Lent.{old, new};
 ghost use Rattle.endian.specs.Le.{put};
 ghost use Rattle.request.specs.Answers.{said};
-ghost use Rattle.plan.specs.Outputs.{outs, roomsOf};
-ghost use Rattle.punch_plan.specs.Punch.{punchLent};
-ghost use Rattle.fallocate_plan.specs.Fallocate.{fallocateLent};
-ghost use Rattle.clone_plan.specs.Clone.{cloneLent};
-ghost use Rattle.ffi.specs.Exports.{nine, withNine, Told, Exported};
+ghost use Rattle.plan_def.specs.Outputs.{six, four};
+ghost use Rattle.punch_def.specs.Punch.{punchLent};
+ghost use Rattle.fallocate_def.specs.Fallocate.{fallocateLent};
+ghost use Rattle.clone_def.specs.Clone.{cloneLent};
+ghost use Rattle.ffi.specs.Exports.{nine, Told, Exported, volume, file, range, cloneRange};
 
 // ---- what goes in and comes out
 
 fn volume(sector: u64, total: u64, generation: u64, snapshot: u64) -> Volume
-    ensures { λ r. ⌜ r ≡ record { sector = sector; total = total; generation = generation; snapshot = snapshot } ⌝ }
+    ensures { λ r. ⌜ r ≡ volume sector total generation snapshot ⌝ }
 {
     Volume {
         sector,
@@ -34,7 +35,7 @@ fn volume(sector: u64, total: u64, generation: u64, snapshot: u64) -> Volume
 }
 
 fn file(number: u64, size: u64, nodatacow: bool) -> File
-    ensures { λ r. ⌜ r ≡ record { number = number; size = size; nodatacow = nodatacow } ⌝ }
+    ensures { λ r. ⌜ r ≡ file number size nodatacow ⌝ }
 {
     File {
         number,
@@ -46,7 +47,7 @@ fn file(number: u64, size: u64, nodatacow: bool) -> File
 // The nine numbers of a plan over the first of `answer`.
 fn put_nine(n: Numbers, answer: &mut [u64])
     requires { ⌜ 9 ≤ length (now answer) ⌝ }
-    ensures { λ r. ⌜ now (answer .exit) ≡ put (nine n) 0 (now (answer .entry)) ⌝ }
+    ensures { λ r. ⌜ new answer ≡ put (nine n) 0 (old answer) ⌝ }
 {
     answer[0] = n.edits as u64;
     answer[1] = n.shares as u64;
@@ -62,7 +63,7 @@ fn put_nine(n: Numbers, answer: &mut [u64])
 // An answer's byte, and its numbers if it is a plan.
 fn tell(a: Answer, answer: &mut [u64]) -> u8
     requires { ⌜ 9 ≤ length (now answer) ⌝ }
-    ensures { λ r. ⌜ Told (said a) r (now (answer .entry)) (now (answer .exit)) ⌝ }
+    ensures { λ r. ⌜ Told (said a) r (old answer) (new answer) ⌝ }
 {
     match a {
         Answer::Refused(why) => why,
@@ -100,10 +101,11 @@ pub extern "C" fn zag_punch(
     writes: &mut [u64],
     answer: &mut [u64],
 ) -> u8
-    ensures { λ r. ⌜ Exported number (withNine (now (answer .entry)) (punchLent (record { sector = sector; total = total; generation = generation; snapshot = snapshot }) (record { number = number; size = size; nodatacow = nodatacow }) (record { offset = offset; length = length }) (now (list .entry)) (now (shared .entry)) (now (table .entry)) (now (places .entry)) (roomsOf (outs (now (edits .entry)) (now (shares .entry)) (now (unrefs .entry)) (now (releases .entry)) (now (adds .entry)) (now (writes .entry)))))) r (now (answer .entry)) (now (answer .exit)) (outs (now (edits .entry)) (now (shares .entry)) (now (unrefs .entry)) (now (releases .entry)) (now (adds .entry)) (now (writes .entry))) (outs (now (edits .exit)) (now (shares .exit)) (now (unrefs .exit)) (now (releases .exit)) (now (adds .exit)) (now (writes .exit))) ⌝ }
+    ensures { λ r. ⌜ Exported number (punchLent (volume sector total generation snapshot) (file number size nodatacow) (range offset length) (old list) (old shared) (old table) (old places))
+        r answer (six edits shares unrefs releases adds writes) ⌝ }
 {
     if answer.len() < 9 {
-        return 27;
+        return refusal::ROOM;
     }
     let a = punch::punch_hole(
         volume(sector, total, generation, snapshot),
@@ -148,10 +150,11 @@ pub extern "C" fn zag_fallocate(
     writes: &mut [u64],
     answer: &mut [u64],
 ) -> u8
-    ensures { λ r. ⌜ Exported number (withNine (now (answer .entry)) (fallocateLent (record { sector = sector; total = total; generation = generation; snapshot = snapshot }) (record { number = number; size = size; nodatacow = nodatacow }) (record { offset = offset; length = length }) keep (now (list .entry)) (now (shared .entry)) (now (table .entry)) (now (places .entry)) (roomsOf (outs (now (edits .entry)) (now (shares .entry)) (now (unrefs .entry)) (now (releases .entry)) (now (adds .entry)) (now (writes .entry)))))) r (now (answer .entry)) (now (answer .exit)) (outs (now (edits .entry)) (now (shares .entry)) (now (unrefs .entry)) (now (releases .entry)) (now (adds .entry)) (now (writes .entry))) (outs (now (edits .exit)) (now (shares .exit)) (now (unrefs .exit)) (now (releases .exit)) (now (adds .exit)) (now (writes .exit))) ⌝ }
+    ensures { λ r. ⌜ Exported number (fallocateLent (volume sector total generation snapshot) (file number size nodatacow) (range offset length) keep (old list) (old shared) (old table) (old places))
+        r answer (six edits shares unrefs releases adds writes) ⌝ }
 {
     if answer.len() < 9 {
-        return 27;
+        return refusal::ROOM;
     }
     let a = fallocate::fallocate(
         volume(sector, total, generation, snapshot),
@@ -198,17 +201,18 @@ pub extern "C" fn zag_clone<'a>(
     releases: &mut [u64],
     answer: &mut [u64],
 ) -> u8
-    ensures { λ r. ⌜ Exported number (withNine (now (answer .entry)) (cloneLent (record { sector = sector; total = total; generation = generation; snapshot = snapshot }) (record { number = number; size = size; nodatacow = false }) (record { number = «source_number»; size = «source_size»; nodatacow = false }) own (record { from = from; to = to; length = length }) (now (list .entry)) (now (shared .entry)) (now (source .entry)) (now (table .entry)) (roomsOf (outs (now (edits .entry)) (now (shares .entry)) (now (unrefs .entry)) (now (releases .entry)) [] [])))) r (now (answer .entry)) (now (answer .exit)) (outs (now (edits .entry)) (now (shares .entry)) (now (unrefs .entry)) (now (releases .entry)) [] []) (outs (now (edits .exit)) (now (shares .exit)) (now (unrefs .exit)) (now (releases .exit)) [] []) ⌝ }
+    ensures { λ r. ⌜ Exported number (cloneLent (volume sector total generation snapshot) (file number size false) (file «source_number» «source_size» false) own (cloneRange from to length) (old list) (old shared) (old source) (old table))
+        r answer (four edits shares unrefs releases) ⌝ }
 {
     if answer.len() < 9 {
-        return 27;
+        return refusal::ROOM;
     }
     let a = clone::clone_range(
         volume(sector, total, generation, snapshot),
         file(number, size, false),
         file(source_number, source_size, false),
         own,
-        Span { from, to, length },
+        CloneRange { from, to, length },
         list,
         shared,
         source,

@@ -3,7 +3,7 @@ use mathlib.Core.Path.{_≡_, refl}
 use mathlib.Core.List.{List, [], _∷_, map}
 use Prim.Native.Nat.{ℕ}
 use Rattle.endian.specs.Le.{put}
-use Rattle.applying.specs.Apply.{Applying, applied, refusal}
+use Rattle.apply_def.specs.Apply.{Applying, applied, refusal}
 use Rattle.table.specs.declared.Row.{Row}
 use Rattle.apply.specs.Outcomes.{told}
 use Rattle.ffi_apply.specs.Exports.{code, countsOver, withTwo}

@@ -4,9 +4,10 @@ use mathlib.Core.Path.{_≡_}
 use Prim.Native.Nat.{ℕ}
 use lib.Dec.{leb}
 use lib.ListN.{length}
+use Rattle.records.specs.Lent.{Slice, old, new}
 use Rattle.records.specs.Stages.{unless}
 use Rattle.endian.specs.Le.{put}
-use Rattle.applying.specs.Apply.{Applying, orApplied}
+use Rattle.apply_def.specs.Apply.{Applying, orApplied}
 use Rattle.apply.specs.Outcomes.{Told, done, refused, told, listLeft, tableLeft}
 
 -- each case of an answer as a byte: 0 for a plan that is applied, a refusal's own number
@@ -29,7 +30,11 @@ pub record Heard (t : Told) (r : ℕ) (answer answer′ : List ℕ) : Type 0 whe
   pub counts : answer′ ≡ countsOver t answer
 
 -- the export does what its definition says: the byte, and every number of `answer`, byte of the list and number of the table
-pub record Exported (o : Applying) (r : ℕ) (answer answer′ list list′ table table′ : List ℕ) : Type 0 where
+pub record ExportedWith (o : Applying) (r : ℕ) (answer answer′ list list′ table table′ : List ℕ) : Type 0 where
   pub heard : Heard (told o) r answer answer′
   pub bytes : list′ ≡ listLeft o list
   pub numbers : table′ ≡ tableLeft o table
+
+-- what the export ensures of a definition
+abbrev pub Exported : Applying → ℕ → (answer list table : Slice) → Type 0
+Exported o r answer list table = ExportedWith (withTwo (old answer) o) r (old answer) (new answer) (old list) (new list) (old table) (new table)

@@ -2,17 +2,18 @@
 // `answer` overlaps another slice. The byte is 0 for a plan that is applied, else the refusal's number. `answer` receives the two
 // new counts, of records and of rows.
 use apply::Applied;
+use records::refusal;
 ghost use Prim.Native.Nat.{_≤_};
 ghost use lib.ListN.{length};
-ghost use Rattle.applying.specs.Lent.{applyLent};
-ghost use Rattle.apply.specs.Outcomes.{said};
-ghost use Rattle.apply_refusals.specs.Stages.{partsOf};
-ghost use Rattle.ffi_apply.specs.Exports.{withTwo, Heard, Exported};
+ghost use Rattle.records.specs.Lent.{old, new};
+ghost use Rattle.apply_def.specs.Lent.{applyLent, partsOf};
+ghost use Rattle.apply.specs.Outcomes.{appliedSaid};
+ghost use Rattle.ffi_apply.specs.Exports.{Heard, Exported};
 
 // An answer's byte, and its two counts if the plan is applied.
 fn tell(a: Applied, answer: &mut [u64]) -> u8
     requires { ⌜ 2 ≤ length (now answer) ⌝ }
-    ensures { λ r. ⌜ Heard (said a) r (now (answer .entry)) (now (answer .exit)) ⌝ }
+    ensures { λ r. ⌜ Heard (appliedSaid a) r (old answer) (new answer) ⌝ }
 {
     match a {
         Applied::Refused(why) => why,
@@ -42,10 +43,10 @@ pub extern "C" fn zag_apply(
     adds: &[u64],
     answer: &mut [u64],
 ) -> u8
-    ensures { λ r. ⌜ Exported (withTwo (now (answer .entry)) (applyLent sector number generation items rows (now (list .entry)) (now (table .entry)) (partsOf (now (edits .entry)) (now (shares .entry)) (now (unrefs .entry)) (now (releases .entry)) (now (adds .entry))))) r (now (answer .entry)) (now (answer .exit)) (now (list .entry)) (now (list .exit)) (now (table .entry)) (now (table .exit)) ⌝ }
+    ensures { λ r. ⌜ Exported (applyLent sector number generation items rows (old list) (old table) (partsOf (old edits) (old shares) (old unrefs) (old releases) (old adds))) r answer list table ⌝ }
 {
     if answer.len() < 2 {
-        return 27;
+        return refusal::ROOM;
     }
     let a = apply::apply_plan(
         sector,

@@ -9,7 +9,7 @@ use Rattle.endian.proofs.Fields.{place}
 use Rattle.records.specs.Records.{records}
 use Rattle.records.proofs.Loops.{rest, rest-all, chunks-length, chunks-at}
 use Rattle.item.specs.declared.Item.{Item}
-use Rattle.item.specs.Items.{Fields, fields, itemOf, decode, items, regularItem, ofKind, changed}
+use Rattle.item.specs.Items.{Fields, fields, itemOf, decode, items, regularItem, ofKind, withNumbers}
 use Rattle.item.specs.Raw.{written, blank}
 use Rattle.item.proofs.Runs.{Reads, reads-written}
 
@@ -40,21 +40,21 @@ pub with-kind : (i r : Item) (f : Fields) (v : ℕ) → Reads i f → v < 256 �
 unfolding place room
 with-kind i r f v h hv e = reads-written i r f 5 v h (omega arith) (omega arith) e
 
-pub with-generation : (i r : Item) (f : Fields) (v : ℕ) → Reads i f → v < 2 ^ 64 → r ≡ written i 0 8 v → Reads r (changed f (f .file) (f .key) v (f .kind) (f .position) (f .length))
+pub with-generation : (i r : Item) (f : Fields) (v : ℕ) → Reads i f → v < 2 ^ 64 → r ≡ written i 0 8 v → Reads r (withNumbers f (f .file) (f .key) v (f .kind) (f .position) (f .length))
 unfolding place room
 with-generation i r f v h hv e = reads-written i r f 0 v h (omega arith) (omega arith) e
 
-pub with-position : (i r : Item) (f : Fields) (v : ℕ) → Reads i f → v < 2 ^ 64 → r ≡ written i 37 8 v → Reads r (changed f (f .file) (f .key) (f .generation) (f .kind) v (f .length))
+pub with-position : (i r : Item) (f : Fields) (v : ℕ) → Reads i f → v < 2 ^ 64 → r ≡ written i 37 8 v → Reads r (withNumbers f (f .file) (f .key) (f .generation) (f .kind) v (f .length))
 unfolding place room
 with-position i r f v h hv e = reads-written i r f 8 v h (omega arith) (omega arith) e
 
-pub with-length : (i r : Item) (f : Fields) (v : ℕ) → Reads i f → v < 2 ^ 64 → r ≡ written i 45 8 v → Reads r (changed f (f .file) (f .key) (f .generation) (f .kind) (f .position) v)
+pub with-length : (i r : Item) (f : Fields) (v : ℕ) → Reads i f → v < 2 ^ 64 → r ≡ written i 45 8 v → Reads r (withNumbers f (f .file) (f .key) (f .generation) (f .kind) (f .position) v)
 unfolding place room
 with-length i r f v h hv e = reads-written i r f 9 v h (omega arith) (omega arith) e
 
 -- the key is no part of the data
-pub with-key : (i : Item) (f : Fields) (file key : ℕ) → Reads i f → fields (record { file = file; «key_type» = i .«key_type»; key = key; «data» = i .«data» }) ≡ changed f file key (f .generation) (f .kind) (f .position) (f .length)
-with-key i f file key h = ap (λ (g : Fields). changed g file key (g .generation) (g .kind) (g .position) (g .length)) (h .told)
+pub with-key : (i : Item) (f : Fields) (file key : ℕ) → Reads i f → fields (record { file = file; «key_type» = i .«key_type»; key = key; «data» = i .«data» }) ≡ withNumbers f file key (f .generation) (f .kind) (f .position) (f .length)
+with-key i f file key h = ap (λ (g : Fields). withNumbers g file key (g .generation) (g .kind) (g .position) (g .length)) (h .told)
 
 -- six numbers over zeros are a new regular item
 pub regular-item :

@@ -1,2 +1,4 @@
 pub mod Runs
 pub mod Laws
+pub mod Widths
+pub mod Samples

@@ -94,7 +94,7 @@ pub record Sound (f : Fields) : Type 0 where
 abbrev pub ranged : Fields → Bool
 ranged f = eqb (f .kind) 1 || eqb (f .kind) 2
 
--- "Extent start 0 marks an explicit hole." (of kinds 1 and 2)
+-- "Extent start 0 marks an explicit hole."; an item of any kind is asked alike
 abbrev pub hole : Fields → Bool
 hole f = eqb (f .extentStart) 0
 
@@ -128,8 +128,8 @@ regularItem file key generation start length =
     }
 
 -- an item with other numbers where a plan may change them: its data else are kept
-abbrev pub changed : Fields → (file key generation kind position length : ℕ) → Fields
-changed f file key generation kind position length =
+abbrev pub withNumbers : Fields → (file key generation kind position length : ℕ) → Fields
+withNumbers f file key generation kind position length =
     record {
       file = file;
       keyType = f .keyType;
@@ -148,16 +148,16 @@ changed f file key generation kind position length =
 
 -- what a cut leaves of an item, and where a clone puts it in a file: its data but position and length are kept
 abbrev pub windowed : Fields → (file key position length : ℕ) → Fields
-windowed f file key position length = changed f file key (f .generation) (f .kind) position length
+windowed f file key position length = withNumbers f file key (f .generation) (f .kind) position length
 
 -- "The joined item has the first's data, both lengths and the new generation."
 abbrev pub joined : Fields → Fields → ℕ → Fields
-joined f g generation = changed f (f .file) (f .key) generation (f .kind) (f .position) (f .length + g .length)
+joined f g generation = withNumbers f (f .file) (f .key) generation (f .kind) (f .position) (f .length + g .length)
 
 -- a part of a preallocated item "written in place as regular", with the new generation
 abbrev pub writtenInPlace : Fields → (key generation position length : ℕ) → Fields
-writtenInPlace f key generation position length = changed f (f .file) key generation 1 position length
+writtenInPlace f key generation position length = withNumbers f (f .file) key generation 1 position length
 
 -- a new item of another kind: a preallocated piece
 abbrev pub ofKind : Fields → ℕ → Fields
-ofKind f kind = changed f (f .file) (f .key) (f .generation) kind (f .position) (f .length)
+ofKind f kind = withNumbers f (f .file) (f .key) (f .generation) kind (f .position) (f .length)

@@ -2,6 +2,7 @@
 ghost use mathlib.Core.Path.{_≡_};
 ghost use Prim.Native.Nat.{_+_, _*_, _≤_, _<_, _^_};
 ghost use lib.ListN.{length, take, drop, replicate};
+ghost use Rattle.records.specs.Lent.{old, new};
 ghost use Rattle.endian.specs.Le.{num, enc, put};
 ghost use Rattle.item.specs.Items.{fields, itemOf, encode, reference, regularItem, windowed, joined, writtenInPlace, ofKind};
 ghost use Rattle.item.specs.Raw.{RawItem, written, blank};
@@ -35,6 +36,11 @@ fn u8_of(d: [u8; 53], at: usize) -> u8
 {
     endian::le8_at(&d, at)
 }
+
+// The bytes of a record, and of an edit: a byte and a record.
+pub const RECORD: usize = 70;
+
+pub const EDIT: usize = 71;
 
 impl Item {
     // Where each number of the data stands, by the port's names.
@@ -161,7 +167,7 @@ impl Item {
         out
     }
 
-    // An item joined with the one behind it, of the length given: both lengths, the new generation.
+    // An item joined with the one behind it: both lengths, the new generation.
     pub fn joined(self, behind: Self, generation: u64) -> Self
         requires { ⌜ fields self .length + fields behind .length < 2 ^ 64 ⌝ }
         ensures { λ r. ⌜ fields r ≡ joined (fields self) (fields behind) generation ⌝ }
@@ -221,7 +227,7 @@ impl Item {
 // 53 bytes of a list.
 fn data_at(s: &[u8], at: usize) -> [u8; 53]
     requires { ⌜ at + 53 ≤ length (now s) ⌝ }
-    ensures { λ r. ⌜ r ≡ take 53 (drop at (now (s .entry))) ⌝ }
+    ensures { λ r. ⌜ r ≡ take 53 (drop at (old s)) ⌝ }
 {
     let mut d = [0u8; 53];
     endian::copy(s, at, &mut d, 0, 53);
@@ -230,7 +236,7 @@ fn data_at(s: &[u8], at: usize) -> [u8; 53]
 
 fn raw_item(s: &[u8], at: usize) -> Item
     requires { ⌜ at + 70 ≤ length (now s) ⌝ }
-    ensures { λ r. ⌜ RawItem r (now (s .entry)) at ⌝ }
+    ensures { λ r. ⌜ RawItem r (old s) at ⌝ }
 {
     Item {
         file: endian::le64_at(s, at),
@@ -243,15 +249,15 @@ fn raw_item(s: &[u8], at: usize) -> Item
 // Record n of a list.
 pub fn item_at(list: &[u8], n: usize) -> Item
     requires { ⌜ n * 70 + 70 ≤ length (now list) ⌝ }
-    ensures { λ r. ⌜ r ≡ itemOf (drop (n * 70) (now (list .entry))) ⌝ }
+    ensures { λ r. ⌜ r ≡ itemOf (drop (n * 70) (old list)) ⌝ }
 {
-    raw_item(list, n * 70)
+    raw_item(list, n * RECORD)
 }
 
 // An item over the 70 bytes from `at`.
 pub fn put_item(out: &mut [u8], at: usize, item: Item)
     requires { ⌜ at + 70 ≤ length (now out) ⌝ }
-    ensures { λ r. ⌜ now (out .exit) ≡ put (encode (fields item)) at (now (out .entry)) ⌝ }
+    ensures { λ r. ⌜ new out ≡ put (encode (fields item)) at (old out) ⌝ }
 {
     let d = item.data;
     endian::put_num(out, at, 8, item.file);

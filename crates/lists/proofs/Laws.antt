@@ -9,10 +9,10 @@ use native.Mathlib.Decide.{ℕ-discrete}
 use lib.Dec.{eqb, leb}
 use lib.ListN.{length, getD}
 use borrow.Author.Tests.{eqb-true, eqb-false, eq-eqb, leb-true, ltb-true, not-true}
-use Rattle.records.specs.Stages.{unless, first, firstOf, every, pairs}
-use Rattle.records.proofs.Tests.{both-left, both-right, either, either-left, either-right, implied, first-zero, unless-zero, every-at, pairs-at}
+use Rattle.records.specs.Stages.{whenever, unless, first, firstOf, every, pairs}
+use Rattle.records.proofs.Tests.{both-left, both-right, either, either-left, either-right, implied, first-zero, whenever-zero, unless-zero, every-at, pairs-at}
 use Rattle.item.specs.Items.{Fields, ranged, end}
-use Rattle.lists.specs.Lists.{itemSound, rangeSound, rises, apart, wellKept, whole, recordRefusal}
+use Rattle.lists.specs.Lists.{itemSound, rangeSound, rises, apart, listKept, wholeSectors, recordRefusal}
 use Rattle.lists.proofs.Order.{item-ranged}
 
 -- ---- a well-kept list
@@ -22,8 +22,8 @@ pub record Kept (file : ℕ) (fs : List Fields) : Type 0 where
   pub rising : pairs rises fs ≡ true
   pub separate : pairs apart fs ≡ true
 
-pub kept : (file : ℕ) (fs : List Fields) → wellKept file fs ≡ true → Kept file fs
-unfolding wellKept
+pub kept : (file : ℕ) (fs : List Fields) → listKept file fs ≡ true → Kept file fs
+unfolding listKept
 kept file fs h =
     let s : Bool = every (itemSound file) fs in
     let r : Bool = pairs rises fs in
@@ -31,8 +31,8 @@ kept file fs h =
     let t : (r && p) ≡ true = both-right s (r && p) h in
     record { sound = both-left s (r && p) h; rising = both-left r p t; separate = both-right r p t }
 
-pub well-kept : (file : ℕ) (fs : List Fields) → Kept file fs → wellKept file fs ≡ true
-unfolding wellKept
+pub well-kept : (file : ℕ) (fs : List Fields) → Kept file fs → listKept file fs ≡ true
+unfolding listKept
 well-kept file fs k = rw (k .sound, k .rising, k .separate) refl
 
 -- by induction: the first item, and the rest
@@ -77,7 +77,7 @@ item-file file f h =
     let t : (eqb (f .file) file && eqb (f .keyType) 108) ≡ true = both-left (eqb (f .file) file && eqb (f .keyType) 108) (not (ranged f) || rangeSound f) h in
     (eqb-true (f .file) file (both-left (eqb (f .file) file) (eqb (f .keyType) 108) t), eqb-true (f .keyType) 108 (both-right (eqb (f .file) file) (eqb (f .keyType) 108) t))
 
-pub whole-facts : (sector : ℕ) (f : Fields) → whole sector f ≡ true → ranged f ≡ true → (f .key % sector ≡ 0) × (f .length % sector ≡ 0)
+pub whole-facts : (sector : ℕ) (f : Fields) → wholeSectors sector f ≡ true → ranged f ≡ true → (f .key % sector ≡ 0) × (f .length % sector ≡ 0)
 whole-facts sector f h r =
     let t = implied (ranged f) (eqb (f .key % sector) 0 && eqb (f .length % sector) 0) h r in
     (eqb-true (f .key % sector) 0 (both-left (eqb (f .key % sector) 0) (eqb (f .length % sector) 0) t), eqb-true (f .length % sector) 0 (both-right (eqb (f .key % sector) 0) (eqb (f .length % sector) 0) t))
@@ -99,13 +99,13 @@ pub record Plain (f : Fields) : Type 0 where
 pub plain : (f : Fields) → recordRefusal f ≡ 0 → Plain f
 unfolding firstOf
 plain f h =
-    let u7 : ℕ = unless (not (eqb (f .kind) 0)) 7 in
+    let u7 : ℕ = whenever (eqb (f .kind) 0) 7 in
     let u8 : ℕ = unless (leb (f .kind) 2) 8 in
     let u9 : ℕ = unless (eqb (f .encryption) 0 && eqb (f .other) 0) 9 in
     let z = first-zero u7 (first u8 (first u9 0)) h in
     let y = first-zero u8 (first u9 0) (z .1) in
     let x = first-zero u9 0 (y .1) in
-    let inline : eqb (f .kind) 0 ≡ false = not-true (eqb (f .kind) 0) (unless-zero (not (eqb (f .kind) 0)) 7 (z .0) (λ e. omega arith)) in
+    let inline : eqb (f .kind) 0 ≡ false = whenever-zero (eqb (f .kind) 0) 7 (z .0) (λ e. omega arith) in
     let over = leb-true (f .kind) 2 (unless-zero (leb (f .kind) 2) 8 (y .0) (λ e. omega arith)) in
     let plain : (eqb (f .encryption) 0 && eqb (f .other) 0) ≡ true = unless-zero (eqb (f .encryption) 0 && eqb (f .other) 0) 9 (x .0) (λ e. omega arith) in
     record {

@@ -7,11 +7,12 @@ use Prim.Native.Nat.{ℕ, _+_, _<_, _≤_, _^_}
 use native.Mathlib.Omega.{arith}
 use lib.Dec.{leb, ltb, eqb}
 use borrow.Author.Tests.{ltb-true, leb-true, le-leb, lt-ltb}
-use Rattle.records.specs.Stages.{unless, first, sieve, every, pairs}
+use Rattle.records.specs.Stages.{unless, first, every, pairs}
+use Rattle.records.specs.Raw.{sieve}
 use Rattle.records.proofs.Tests.{both, both-left, both-right, either, either-left, same, implied, imply, first-unless, unless-zero, every-map, every-both}
 use Rattle.item.specs.Items.{Fields, ranged, end}
 use Rattle.lists.specs.declared.Last.{Last}
-use Rattle.lists.specs.Lists.{rangeSound, itemSound, rises, apart, wellKept}
+use Rattle.lists.specs.Lists.{rangeSound, itemSound, rises, apart, listKept}
 use Rattle.lists.specs.Raw.{begin, follows, turn, next}
 
 -- ---- one item
@@ -185,8 +186,8 @@ every-begin [] = refl
 every-begin (f ∷ fs) = both (follows begin f) (every (follows begin) fs) (imply (ranged f) (leb 0 (f .key)) (λ q. le-leb 0 (f .key) (omega arith))) (every-begin fs)
 
 -- the whole pass
-pub pass-all : (file : ℕ) (fs : List Fields) → sieve (turn file) next begin fs ≡ unless (wellKept file fs) 2
-unfolding wellKept
+pub pass-all : (file : ℕ) (fs : List Fields) → sieve (turn file) next begin fs ≡ unless (listKept file fs) 2
+unfolding listKept
 pass-all file fs = pass file begin fs ∙ rw (every-begin fs) refl
 
 -- ---- a turn's sum fits

@@ -1,11 +1,17 @@
--- The state that the check of a list's order carries from record to record, and its turn.
+-- For the code only: 1 of a list in one test, and the state that the check of a list's order carries from record to record, with its
+-- turn.
 use mathlib.Core.Bool.{Bool, true, false, cond, _&&_, _||_, not}
+use mathlib.Core.List.{List}
 use Prim.Native.Nat.{ℕ}
 use lib.Dec.{leb, ltb}
 use Rattle.records.specs.Stages.{unless}
-use Rattle.item.specs.Items.{Fields, ranged, end}
-use Rattle.lists.specs.Lists.{itemSound}
+use Rattle.item.specs.Items.{Fields, items, ranged, end}
+use Rattle.lists.specs.Lists.{wholeRecords, fewRecords, itemSound}
 use Rattle.lists.specs.declared.Last.{Last}
+
+-- neither of broken length nor over-long
+abbrev pub listSized : List ℕ → Bool
+listSized list = wholeRecords list && fewRecords (items list)
 
 -- before the first record
 abbrev pub begin : Last

@@ -8,7 +8,8 @@ use native.Mathlib.Omega.{arith}
 use lib.Dec.{eqb, leb, ltb}
 use lib.ListN.{length}
 use borrow.Author.Tests.{eqb-true, leb-true, ltb-true}
-use Rattle.records.specs.Stages.{unless, first, firstOf, stage, every}
+use Rattle.plan_def.proofs.Outcomes.{two-refused}
+use Rattle.records.specs.Stages.{whenever, unless, first, firstOf, stage, every}
 use Rattle.records.proofs.Tests.{both-left, first-stop, first-go, first-assoc, first-last, first-zero, firstOf-zero, unless-zero, ltb-suc}
 use Rattle.item.specs.Items.{items}
 use Rattle.table.specs.Rows.{rows}
@@ -19,29 +20,25 @@ use Rattle.request.specs.declared.Range.{Range}
 use Rattle.request.specs.Lent.{lent, listBroken, tableBroken}
 use Rattle.request.specs.Answers.{Outcome, nothing, refused}
 use Rattle.request.proofs.Stages.{Accepted, accepted}
-use Rattle.segment.specs.Segments.{Runs}
-use Rattle.segment.proofs.Segments.{kept-runs}
-use Rattle.plan.specs.Plans.{Plan, refusedOr, orNothing}
-use Rattle.plan.specs.Outputs.{Rooms}
-use Rattle.change.specs.declared.RangeChange.{RangeChange}
-use Rattle.change.specs.declared.Fill.{Fill}
-use Rattle.change.specs.Preallocs.{Span, pieceLimit}
-use Rattle.change.specs.Rewrites.{groundOf}
-use Rattle.change.specs.Changes.{Change, changeOf, changed}
-use Rattle.change.specs.Sweep.{filledOf}
-use Rattle.change.proofs.Sweep.{punch-swept}
-use Rattle.drafts.specs.Raw.{Asked}
-use Rattle.punch_plan.specs.Punch.{planPunch, rangeRefusal, punch, punchLent}
+use Rattle.cut_segment.specs.Segments.{Runs}
+use Rattle.cut_segment.proofs.Segments.{kept-runs}
+use Rattle.plan_def.specs.Plans.{Plan, refusedOr, orNothing}
+use Rattle.plan_def.specs.Outputs.{Rooms}
+use Rattle.change_def.specs.declared.RangeChange.{RangeChange}
+use Rattle.change_def.specs.declared.Fill.{Fill}
+use Rattle.change_def.specs.Preallocs.{Stretch, pieceLimit}
+use Rattle.change_def.specs.Rewrites.{groundOf}
+use Rattle.change_def.specs.Changes.{Change, changed}
+use Rattle.change_def.specs.Raw.{changeOf}
+use Rattle.change_def.specs.Sweep.{filledOf}
+use Rattle.change_def.proofs.Sweep.{punch-swept}
+use Rattle.change_draft.specs.Raw.{Asked}
+use Rattle.punch_def.specs.Punch.{planPunch, rangeRefusal, punch, punchLent}
 use Rattle.punch.specs.Raw.{rangeLent}
-use Rattle.punch_plan.proofs.Planned.{records-ranged, ground-items, ground-sound}
-use Rattle.punch_plan.proofs.Fair.{asked, fair}
+use Rattle.punch_def.proofs.Planned.{records-ranged, ground-items, ground-sound}
+use Rattle.punch_def.proofs.Fair.{asked, fair}
 
 -- a refusal, and what follows if there is none
-pub two-refused : (x y : ℕ) (o : Outcome Plan) → refusedOr x (refusedOr y o) ≡ refusedOr (first x y) o
-unfolding refusedOr first
-two-refused zero y o = refl
-two-refused (suc x) y o = refl
-
 pub refuses : (x : ℕ) (o : Outcome Plan) → (x ≡ 0 → ⊥) → refusedOr x o ≡ refused x
 unfolding refusedOr
 refuses zero o z = absurd (z refl)
@@ -56,7 +53,7 @@ module _ (v : Volume) (f : File) (r : Range) (list shared table : List ℕ) wher
   -- the stages as the code groups them: 7 to 9 come last
   module _ (a b c x y : ℕ) (t : Bool)
       (pa : a ≡ lent v f list shared table)
-      (pb : b ≡ unless (not (eqb (r .length) 0)) 5)
+      (pb : b ≡ whenever (eqb (r .length) 0) 5)
       (pt : t ≡ leb (r .offset + r .length) 9223372036854775807)
       (pc : c ≡ unless t 6)
       (px : x ≡ first b c)
@@ -98,7 +95,7 @@ module _ (v : Volume) (f : File) (r : Range) (list shared table : List ℕ) wher
 
   -- a change that fills no hole
   pub no-holes : (c : RangeChange) (w : Fill) → w ≡ record { from = 0; to = 0; size = f .size } → filledOf c w (items list) ≡ changeOf c (f .size)
-  no-holes c w e = rw e (ap (λ (hs : List Span). record { lo = c .lo; hi = c .hi; rewrites = changeOf c (f .size) .rewrites; holes = hs; size = f .size }) (punch-swept (c .lo) (c .hi) (items list)))
+  no-holes c w e = rw e (ap (λ (hs : List Stretch). record { lo = c .lo; hi = c .hi; rewrites = changeOf c (f .size) .rewrites; holes = hs; size = f .size }) (punch-swept (c .lo) (c .hi) (items list)))
 
   -- the change that is asked for is fair
   pub asked-now : Passed → (c : RangeChange) (w : Fill) → w ≡ record { from = 0; to = 0; size = f .size } → some (changeOf c (f .size)) ≡ planPunch (items list) (f .size) (v .sector) (r .offset) (r .offset + r .length) → Asked v f c w list shared table

@@ -11,18 +11,19 @@ use borrow.Author.Tests.{ltb-true}
 use Rattle.records.proofs.Tests.{both-right}
 use Rattle.item.specs.Items.{Fields}
 use Rattle.request.specs.Lent.{sectorSound}
-use Rattle.cut.specs.Mappings.{holder}
-use Rattle.refs.specs.Drops.{Held, held}
-use Rattle.refs.proofs.Drops.{held-items}
-use Rattle.change.specs.Rounding.{roundDown, roundUp}
-use Rattle.change.specs.Rewrites.{holderOf, whenHeld}
-use Rattle.change.specs.Changes.{Change, changeOf}
-use Rattle.change.specs.declared.Rewrite.{Rewrite}
-use Rattle.change.proofs.Rewrites.{holder-item}
-use Rattle.change.proofs.Rounding.{down-below, sector-range}
-use Rattle.rewrites.specs.declared.Holder.{Holder}
-use Rattle.rewrites.specs.Raw.{heldIn, holderIn}
-use Rattle.punch_plan.specs.Punch.{firstHeld, startIn, heldBy, inOneSector, withinSector, acrossSectors, punchChange, changeFrom, planPunch}
+use Rattle.cut_def.specs.Mappings.{holder}
+use Rattle.ref_def.specs.Drops.{InLeaf, inLeaves}
+use Rattle.ref_def.proofs.Drops.{leaves-items}
+use Rattle.change_def.specs.Rounding.{roundDown, roundUp}
+use Rattle.change_def.specs.Rewrites.{holderOf, whenHeld}
+use Rattle.change_def.specs.Changes.{Change}
+use Rattle.change_def.specs.Raw.{changeOf}
+use Rattle.change_def.specs.declared.Rewrite.{Rewrite}
+use Rattle.change_def.proofs.Rewrites.{holder-item}
+use Rattle.change_def.proofs.Rounding.{down-below, sector-range}
+use Rattle.change_rewrites.specs.declared.Holder.{Holder}
+use Rattle.change_rewrites.specs.Raw.{holderLeaf, holderIn}
+use Rattle.punch_def.specs.Punch.{firstHeld, startIn, heldBy, inOneSector, withinSector, acrossSectors, punchChange, changeFrom, planPunch}
 use Rattle.punch.specs.Raw.{offsetIn}
 use Rattle.punch.specs.declared.Start.{Start}
 
@@ -38,12 +39,12 @@ fitting s x h l =
     record { positive = b .0; up = omega arith; next = omega (arith, down-below s (b .0) x) }
 
 -- whether a search finds an item
-pub found-held : (o : ℕ) (fs : List Fields) (shared : List ℕ) (h : Holder) → length shared ≡ length fs → holderIn h ≡ holderOf o (held fs shared) → h .found ≡ heldBy (holder o fs)
+pub found-held : (o : ℕ) (fs : List Fields) (shared : List ℕ) (h : Holder) → length shared ≡ length fs → holderIn h ≡ holderOf o (inLeaves fs shared) → h .found ≡ heldBy (holder o fs)
 found-held o fs shared h l e =
-    let p : holder o fs ≡ whenHeld (holderIn h) none (λ (q : Held). some (q .item)) = sym (ap (holder o) (held-items fs shared l)) ∙ holder-item o (held fs shared) ∙ rw (← e) refl in
+    let p : holder o fs ≡ whenHeld (holderIn h) none (λ (q : InLeaf). some (q .item)) = sym (ap (holder o) (leaves-items fs shared l)) ∙ holder-item o (inLeaves fs shared) ∙ rw (← e) refl in
     rw p (go (h .found))
   where
-    go : (b : Bool) → b ≡ heldBy (whenHeld (cond b (some (heldIn h)) none) none (λ (q : Held). some (q .item)))
+    go : (b : Bool) → b ≡ heldBy (whenHeld (cond b (some (holderLeaf h)) none) none (λ (q : InLeaf). some (q .item)))
     go true = refl
     go false = refl
 
@@ -60,7 +61,7 @@ one-sector s x stop d e b pd pe pb = rw (pb, pd, pe) refl
 
 module _ (size s x stop d up : ℕ) (pd : d ≡ roundDown s x) (pu : up ≡ roundUp s size) where
   pub within-is : (hi : ℕ) (w : Rewrite) → hi ≡ cond (ltb x up) (d + s) d
-      → changeOf (record { lo = d; hi = hi; «has_front» = ltb x up; front = record { sector = d; first = x; end = stop }; «has_back» = false; back = w }) size ≡ withinSector [] size s x stop
+      → changeOf (record { lo = d; hi = hi; «has_front» = ltb x up; front = record { sector = d; first = x; end = stop }; «has_back» = false; back = w }) size ≡ withinSector size s x stop
   within-is hi w ph = rw (ph, pd, pu) (go (ltb x (roundUp s size)))
     where
       go : (b : Bool)
@@ -92,7 +93,7 @@ module _ (size s x stop d up : ℕ) (pd : d ≡ roundDown s x) (pu : up ≡ roun
 
 -- the change, by whether the range lies inside one sector
 pub change-is : (fs : List Fields) (size s x stop : ℕ) (b t : Bool) (c : Change) → b ≡ inOneSector s x stop → b ≡ t
-    → c ≡ cond t (withinSector fs size s x stop) (acrossSectors fs size s x stop) → c ≡ punchChange fs size s x stop
+    → c ≡ cond t (withinSector size s x stop) (acrossSectors fs size s x stop) → c ≡ punchChange fs size s x stop
 change-is fs size s x stop b t c e q p = p ∙ rw (sym e ∙ q) refl
 
 -- the plan, by whether the start lies in the range

@@ -13,8 +13,8 @@ use borrow.Author.Tests.{leb-true, leb-false, ltb-false, lt-ltb, le-ltb}
 use Rattle.records.specs.Stages.{every}
 use Rattle.records.proofs.Tests.{both, both-left, both-right}
 use Rattle.item.specs.Items.{Fields, hole, end}
-use Rattle.segment.specs.Segments.{nothing, leading, endsBy, Runs}
-use Rattle.punch_plan.specs.Punch.{lower, firstHeld}
+use Rattle.cut_segment.specs.Segments.{nothing, leading, endsBy, Runs}
+use Rattle.punch_def.specs.Punch.{lower, firstHeld}
 
 module _ (offset : ℕ) where
   -- ---- what is found behind an item is not lower than in it

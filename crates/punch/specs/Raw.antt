@@ -10,8 +10,9 @@ use Rattle.request.specs.declared.Volume.{Volume}
 use Rattle.request.specs.declared.File.{File}
 use Rattle.request.specs.declared.Range.{Range}
 use Rattle.request.specs.Lent.{listBroken, tableBroken}
-use Rattle.punch_plan.specs.Punch.{rangeRefusal}
-use Rattle.change.specs.Changes.{Change, changeOf}
+use Rattle.punch_def.specs.Punch.{rangeRefusal}
+use Rattle.change_def.specs.Changes.{Change}
+use Rattle.change_def.specs.Raw.{changeOf}
 use Rattle.punch.specs.declared.Start.{Start}
 use Rattle.punch.specs.declared.PunchPlan.{PunchPlan}
 use Rattle.punch.specs.declared.PunchPlan.the-variants as plan
@@ -21,9 +22,9 @@ abbrev pub offsetIn : Start → Option ℕ
 offsetIn s = cond (s .found) (some (s .at)) none
 
 -- a change of a file of this size, or none
-abbrev pub planIn : PunchPlan → (size : ℕ) → Option Change
-planIn (plan.Change c) size = some (changeOf c size)
-planIn plan.Nothing size = none
+abbrev pub punchPlanSaid : PunchPlan → (size : ℕ) → Option Change
+punchPlanSaid (plan.Change c) size = some (changeOf c size)
+punchPlanSaid plan.Nothing size = none
 
 -- refusals 1 to 9 from the bytes and numbers that are lent
 abbrev pub rangeLent : Volume → File → Range → (list shared table : List ℕ) → ℕ

@@ -1,10 +1,12 @@
 // A punch: where it starts, which sectors it cuts and rewrites (`plan_punch`), and the operation, `punch_hole`.
-use change::RangeChange;
-use change::Rewrite;
+use change_def::RangeChange;
+use change_def::Rewrite;
 use records::both;
 use records::first;
+use records::refusal;
 use records::sum_at_most;
 use records::unless;
+use records::whenever;
 use request::Answer;
 use request::File;
 use request::Range;
@@ -14,14 +16,15 @@ ghost use mathlib.Core.List.{[]};
 ghost use mathlib.Core.Path.{_≡_};
 ghost use Prim.Native.Nat.{_+_, _<_, _^_};
 ghost use lib.ListN.{length};
+ghost use Rattle.records.specs.Lent.{old, new};
 ghost use Rattle.item.specs.Items.{items};
-ghost use Rattle.cut.specs.Mappings.{holder};
-ghost use Rattle.segment.specs.Segments.{Runs};
+ghost use Rattle.cut_def.specs.Mappings.{holder};
+ghost use Rattle.cut_segment.specs.Segments.{Runs};
 ghost use Rattle.request.specs.Lent.{sectorSound};
-ghost use Rattle.plan.specs.Outputs.{outs, roomsOf, Met};
-ghost use Rattle.change.specs.Changes.{changeOf};
-ghost use Rattle.punch_plan.specs.Punch.{firstHeld, heldBy, inOneSector, withinSector, acrossSectors, punchChange, planPunch, punchLent};
-ghost use Rattle.punch.specs.Raw.{offsetIn, planIn, rangeLent};
+ghost use Rattle.plan_def.specs.Outputs.{six, Met};
+ghost use Rattle.change_def.specs.Raw.{changeOf};
+ghost use Rattle.punch_def.specs.Punch.{firstHeld, heldBy, inOneSector, withinSector, acrossSectors, punchChange, planPunch, punchLent};
+ghost use Rattle.punch.specs.Raw.{offsetIn, punchPlanSaid, rangeLent};
 
 // An offset of the file, if there is one.
 pub struct Start {
@@ -33,12 +36,12 @@ pub struct Start {
 // first that is no hole among those that end past it.
 fn first_held(list: &[u8], offset: u64) -> Start
     requires { ⌜ Runs 0 (items (now list)) ⌝ }
-    ensures { λ r. ⌜ offsetIn r ≡ firstHeld offset (items (now (list .entry))) ⌝ }
+    ensures { λ r. ⌜ offsetIn r ≡ firstHeld offset (items (old list)) ⌝ }
 {
-    let from = segment::ending_by(list, offset);
-    for i in from..list.len() / 70 {
-        let item = segment::record_at(list, i);
-        if !cut::is_hole(item) {
+    let from = cut_segment::ending_by(list, offset);
+    for i in from..list.len() / item::RECORD {
+        let item = cut_segment::record_at(list, i);
+        if !cut_def::is_hole(item) {
             return Start {
                 found: true,
                 at: records::larger(item.key, offset),
@@ -57,7 +60,7 @@ fn in_one_sector(sector: u64, start: u64, stop: u64) -> bool
     ensures { λ r. ⌜ r ≡ inOneSector sector start stop ⌝ }
 {
     both(
-        change::round_down(sector, start) == change::round_down(sector, stop - 1),
+        change_def::round_down(sector, start) == change_def::round_down(sector, stop - 1),
         stop - start < sector,
     )
 }
@@ -76,10 +79,10 @@ fn none() -> Rewrite
 // What is cut and rewritten of a range inside one sector; the list has no say in it.
 fn within_sector(size: u64, sector: u64, start: u64, stop: u64) -> RangeChange
     requires { ⌜ (sectorSound sector ≡ true) × (size < 2 ^ 63) × (start < 2 ^ 63) ⌝ }
-    ensures { λ r. ⌜ changeOf r size ≡ withinSector [] size sector start stop ⌝ }
+    ensures { λ r. ⌜ changeOf r size ≡ withinSector size sector start stop ⌝ }
 {
-    let first = change::round_down(sector, start);
-    let below = start < change::round_up(sector, size);
+    let first = change_def::round_down(sector, start);
+    let below = start < change_def::round_up(sector, size);
     RangeChange {
         lo: first,
         hi: records::pick(below, first + sector, first),
@@ -97,12 +100,12 @@ fn within_sector(size: u64, sector: u64, start: u64, stop: u64) -> RangeChange
 // Whether an item holds an offset, if it is asked.
 fn held_if(asked: bool, o: u64, list: &[u8], shared: &[u8]) -> bool
     requires { ⌜ (length (now shared) ≡ length (items (now list))) × Runs 0 (items (now list)) ⌝ }
-    ensures { λ r. ⌜ r ≡ (asked && heldBy (holder o (items (now (list .entry))))) ⌝ }
+    ensures { λ r. ⌜ r ≡ (asked && heldBy (holder o (items (old list)))) ⌝ }
 {
     if !asked {
         return false;
     }
-    rewrites::holding_item(o, list, shared).found
+    change_rewrites::holding_item(o, list, shared).found
 }
 
 // What is cut and rewritten of any other range.
@@ -115,15 +118,15 @@ fn across_sectors(
     stop: u64,
 ) -> RangeChange
     requires { ⌜ (sectorSound sector ≡ true) × (size < 2 ^ 63) × (start < stop) × (stop < 2 ^ 63) × (length (now shared) ≡ length (items (now list))) × Runs 0 (items (now list)) ⌝ }
-    ensures { λ r. ⌜ changeOf r size ≡ acrossSectors (items (now (list .entry))) size sector start stop ⌝ }
+    ensures { λ r. ⌜ changeOf r size ≡ acrossSectors (items (old list)) size sector start stop ⌝ }
 {
-    let first = change::round_down(sector, start);
-    let last = change::round_down(sector, stop);
-    let limit = change::round_up(sector, size);
+    let first = change_def::round_down(sector, start);
+    let last = change_def::round_down(sector, stop);
+    let limit = change_def::round_up(sector, size);
     let has_front = both(first != start, start < limit);
     let has_back = held_if(both(last != stop, stop < limit), last, list, shared);
     RangeChange {
-        lo: records::pick(has_front, first, change::round_up(sector, start)),
+        lo: records::pick(has_front, first, change_def::round_up(sector, start)),
         hi: records::pick(has_back, last + sector, last),
         has_front,
         front: Rewrite {
@@ -150,7 +153,7 @@ fn sectors_of(
     stop: u64,
 ) -> RangeChange
     requires { ⌜ (sectorSound sector ≡ true) × (size < 2 ^ 63) × (start < stop) × (stop < 2 ^ 63) × (length (now shared) ≡ length (items (now list))) × Runs 0 (items (now list)) ⌝ }
-    ensures { λ r. ⌜ changeOf r size ≡ punchChange (items (now (list .entry))) size sector start stop ⌝ }
+    ensures { λ r. ⌜ changeOf r size ≡ punchChange (items (old list)) size sector start stop ⌝ }
 {
     if in_one_sector(sector, start, stop) {
         within_sector(size, sector, start, stop)
@@ -175,7 +178,7 @@ fn plan_punch(
     stop: u64,
 ) -> PunchPlan
     requires { ⌜ (sectorSound sector ≡ true) × (size < 2 ^ 63) × (stop < 2 ^ 63) × (length (now shared) ≡ length (items (now list))) × Runs 0 (items (now list)) ⌝ }
-    ensures { λ r. ⌜ planIn r size ≡ planPunch (items (now (list .entry))) size sector offset stop ⌝ }
+    ensures { λ r. ⌜ punchPlanSaid r size ≡ planPunch (items (old list)) size sector offset stop ⌝ }
 {
     let start = first_held(list, offset);
     if both(start.found, start.at < stop) {
@@ -189,11 +192,14 @@ fn plan_punch(
 
 // Refusals 1 to 9 of a punch or a fallocate: of what it is lent, of its range, and record by record.
 pub fn range_refusal(v: Volume, f: File, r: Range, list: &[u8], shared: &[u8], table: &[u64]) -> u8
-    ensures { λ why. ⌜ why ≡ rangeLent v f r (now (list .entry)) (now (shared .entry)) (now (table .entry)) ⌝ }
+    ensures { λ why. ⌜ why ≡ rangeLent v f r (old list) (old shared) (old table) ⌝ }
 {
     let lent = request::lent_refusal(v, f, list, shared, table);
-    let empty = unless(r.length != 0, 5);
-    let far = unless(sum_at_most(r.offset, r.length, 9223372036854775807), 6);
+    let empty = whenever(r.length == 0, refusal::EMPTY);
+    let far = unless(
+        sum_at_most(r.offset, r.length, 9223372036854775807),
+        refusal::TOO_FAR,
+    );
     let broken = first(lent, first(empty, far));
     if broken != 0 {
         return broken;
@@ -217,7 +223,7 @@ pub fn punch_hole(
     adds: &mut [u64],
     writes: &mut [u64],
 ) -> Answer
-    ensures { λ a. ⌜ Met (f .number) (punchLent v f r (now (list .entry)) (now (shared .entry)) (now (table .entry)) (now (places .entry)) (roomsOf (outs (now (edits .entry)) (now (shares .entry)) (now (unrefs .entry)) (now (releases .entry)) (now (adds .entry)) (now (writes .entry))))) a (outs (now (edits .entry)) (now (shares .entry)) (now (unrefs .entry)) (now (releases .entry)) (now (adds .entry)) (now (writes .entry))) (outs (now (edits .exit)) (now (shares .exit)) (now (unrefs .exit)) (now (releases .exit)) (now (adds .exit)) (now (writes .exit))) ⌝ }
+    ensures { λ a. ⌜ Met (f .number) (punchLent v f r (old list) (old shared) (old table) (old places)) a (six edits shares unrefs releases adds writes) ⌝ }
 {
     let why = range_refusal(v, f, r, list, shared, table);
     if why != 0 {
@@ -233,11 +239,11 @@ pub fn punch_hole(
     );
     match plan {
         PunchPlan::Nothing => Answer::Nothing,
-        PunchPlan::Change(c) => ranges::change_range(
+        PunchPlan::Change(c) => change_range::change_range(
             v,
             f,
             c,
-            change::no_holes(f.size),
+            change_def::no_holes(f.size),
             list,
             shared,
             table,

@@ -4,3 +4,4 @@ pub mod Lists
 pub mod Picks
 pub mod Counts
 pub mod Wholes
+pub mod Chunks

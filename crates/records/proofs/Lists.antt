@@ -7,7 +7,7 @@ use Prim.Native.Nat.{ℕ, zero, suc, _+_, _*_, _<_, _≤_}
 use native.Mathlib.Omega.{arith}
 use native.Mathlib.Nat.{zero-mul, suc-mul}
 use lib.Dec.{eqb}
-use lib.ListN.{length, getD, take, drop}
+use lib.ListN.{length, getD, take, drop, replicate, length-replicate}
 use lib.Seq.{drop-append-add}
 use borrow.Author.Tests.{eq-eqb}
 use Rattle.records.specs.Stages.{first, stage, every, pairs}
@@ -128,6 +128,12 @@ module _ {A : Type 0} where
   pairs-drop p zero l h = h
   pairs-drop p (suc n) [] h = refl
   pairs-drop p (suc n) (a ∷ l) h = pairs-drop p n l (both-right (every (p a) l) (pairs p l) h)
+
+  pub pairs-take : (p : A → A → Bool) (n : ℕ) (l : List A) → pairs p l ≡ true → pairs p (take n l) ≡ true
+  unfolding pairs
+  pairs-take p zero l h = refl
+  pairs-take p (suc n) [] h = refl
+  pairs-take p (suc n) (a ∷ l) h = both (every (p a) (take n l)) (pairs p (take n l)) (every-take (p a) n l (both-left (every (p a) l) (pairs p l) h)) (pairs-take p n l (both-right (every (p a) l) (pairs p l) h))
 
   -- changed one by one
   pub every-mapped : {B : Type 0} (q : B → Bool) (t : A → B) (l : List A) → every q (map t l) ≡ every (λ (a : A). q (t a)) l
@@ -266,3 +272,11 @@ flat-drop f w wide (suc k) (a ∷ l) s h =
     let m : suc k * w ≡ length (f a) + k * w = omega (arith, suc-mul k w, wide a) in
     let e : flatMap f (a ∷ l) ++ s ≡ f a ++ (flatMap f l ++ s) = unfold flatMap in append-assoc (f a) (flatMap f l) s in
     rw (m, e) (drop-append-add (f a) (flatMap f l ++ s) (k * w) ∙ flat-drop f w wide k l s (omega arith))
+
+-- ---- arrays of zeros
+
+pub array-room : (n k : ℕ) → k ≤ n → k ≤ length {A = ℕ} (replicate n 0)
+array-room n k h = rw (length-replicate {A = ℕ} n 0) h
+
+pub array-same : (n : ℕ) → length {A = ℕ} (replicate n 0) ≤ length {A = ℕ} (replicate n 0)
+array-same n = omega arith

@@ -10,7 +10,8 @@ use lib.ListN.{length, getD, drop, drop-of-length-le}
 use lib.Seq.{drop-cons, drop-drop, getD-drop}
 use Rattle.records.specs.Records.{chunks, records}
 use Rattle.records.specs.Select.{count}
-use Rattle.records.specs.Stages.{first, stage, sieve}
+use Rattle.records.specs.Stages.{first, stage}
+use Rattle.records.specs.Raw.{sieve}
 use Rattle.records.proofs.Tests.{first-stop, first-go}
 
 module _ {A : Type 0} (d : List ℕ → A) (w : ℕ) where

@@ -9,7 +9,7 @@ use lib.Dec.{leb, ltb}
 use lib.ListN.{length, getD}
 use borrow.Author.Tests.{ltb-true, leb-true, leb-false, not-true, le-leb, lt-ltb, lt-leb}
 use Rattle.records.specs.Select.{keep}
-use Rattle.records.specs.Stages.{unless, first, firstOf, stage, every, pairs}
+use Rattle.records.specs.Stages.{whenever, unless, first, firstOf, stage, every, pairs}
 
 -- ---- truth values
 
@@ -117,6 +117,10 @@ pub firstOf-zero : (xs : List ℕ) → firstOf xs ≡ 0 → Zeros xs
 unfolding firstOf
 firstOf-zero [] h = tt
 firstOf-zero (x ∷ xs) h = let p = first-zero x (firstOf xs) h in (p .0, firstOf-zero xs (p .1))
+
+pub whenever-zero : (b : Bool) (n : ℕ) → whenever b n ≡ 0 → (n ≡ 0 → ⊥) → b ≡ false
+whenever-zero true n h p = absurd (p h)
+whenever-zero false n h p = refl
 
 pub unless-zero : (b : Bool) (n : ℕ) → unless b n ≡ 0 → (n ≡ 0 → ⊥) → b ≡ true
 unless-zero true n h p = refl

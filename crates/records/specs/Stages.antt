@@ -8,6 +8,10 @@ use Prim.Native.Nat.{ℕ, zero, suc}
 abbrev pub unless : Bool → ℕ → ℕ
 unless b n = cond b 0 n
 
+-- n when b holds
+abbrev pub whenever : Bool → ℕ → ℕ
+whenever b n = cond b n 0
+
 -- the first of two stages that is not 0
 unfoldable pub first : ℕ → ℕ → ℕ
 first zero y = y
@@ -23,11 +27,6 @@ module _ {A : Type 0} where
   unfoldable pub stage : (A → ℕ) → List A → ℕ
   stage f [] = 0
   stage f (r ∷ rs) = first (f r) (stage f rs)
-
-  -- the same with a state that each record moves on
-  unfoldable pub sieve : {S : Type 0} → (S → A → ℕ) → (S → A → S) → S → List A → ℕ
-  sieve f g a [] = 0
-  sieve f g a (r ∷ rs) = first (f a r) (sieve f g (g a r) rs)
 
   -- every record passes
   unfoldable pub every : (A → Bool) → List A → Bool

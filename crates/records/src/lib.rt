@@ -1,10 +1,12 @@
 // Tests and refusal stages in code, and (specs/, proofs/) records of one width with the laws of loops over them.
 // A test written with these functions is one expression without branches, so its proof is found unasked.
+pub mod refusal;
+
 ghost use mathlib.Core.Path.{_≡_};
 ghost use mathlib.Core.Bool.{_&&_, _||_, cond};
 ghost use Prim.Native.Nat.{_+_, _^_, _<_, max, min};
 ghost use lib.Dec.{eqb, leb, ltb};
-ghost use Rattle.records.specs.Stages.{first, unless};
+ghost use Rattle.records.specs.Stages.{first, whenever, unless};
 
 // Both tests hold.
 pub fn both(a: bool, b: bool) -> bool
@@ -54,6 +56,13 @@ pub fn sum_fits(a: u64, b: u64) -> bool
     b <= 18446744073709551615 - a
 }
 
+// The number of a refusal, where its test holds; else 0.
+pub fn whenever(bad: bool, number: u8) -> u8
+    ensures { λ r. ⌜ r ≡ whenever bad number ⌝ }
+{
+    if bad { number } else { 0 }
+}
+
 // A test with the number of its refusal: 0 where it holds.
 pub fn unless(ok: bool, number: u8) -> u8
     ensures { λ r. ⌜ r ≡ unless ok number ⌝ }
@@ -88,6 +97,19 @@ pub fn smaller(a: u64, b: u64) -> u64
     ensures { λ r. ⌜ r ≡ min a b ⌝ }
 {
     if a < b { a } else { b }
+}
+
+// The lower and the upper of two places.
+pub fn lower(a: usize, b: usize) -> usize
+    ensures { λ r. ⌜ r ≡ min a b ⌝ }
+{
+    if b < a { b } else { a }
+}
+
+pub fn upper(a: usize, b: usize) -> usize
+    ensures { λ r. ⌜ r ≡ max a b ⌝ }
+{
+    if b < a { a } else { b }
 }
 
 // One of two numbers, by a test.

@@ -6,10 +6,10 @@ use lib.ListN.{drop}
 use Rattle.records.specs.Stages.{every, pairs}
 use Rattle.records.specs.Select.{only}
 use Rattle.records.proofs.Tests.{both, both-left, both-right, every-map}
-use Rattle.cut.specs.Refs.{Ref, sameRef}
-use Rattle.refs.specs.Compared.{refBefore, without, minus}
-use Rattle.sorting.specs.Order.{upward, ordered, startsBefore}
-use Rattle.sorting.proofs.Order.{Order, rises, level, falls, compare, before-up, before-upward, same-self}
+use Rattle.cut_def.specs.Refs.{Ref, sameRef}
+use Rattle.ref_def.specs.Compared.{refBefore, without, minus}
+use Rattle.ref_sort.specs.Order.{upward, ordered, startsBefore}
+use Rattle.ref_sort.proofs.Order.{Order, rises, level, falls, compare, before-up, before-upward, same-self}
 use Rattle.ref_minus.specs.Walk.{startsWith, past}
 
 -- ---- skipping
@@ -92,8 +92,3 @@ pub minus-turn : (x : Ref) (xs ys zs : List Ref) (b : Bool) → ordered (x ∷ x
     → minus (x ∷ xs) ys ≡ only (not b) x ++ minus xs (drop (cond b 1 0) zs)
 minus-turn x xs ys zs b o p e f =
     minus-past x xs ys o ∙ ap (minus (x ∷ xs)) (sym e) ∙ rw f (first-turn x xs zs (rw e (past-ordered x ys p)) (rw e (past-first x ys)))
-
-pub minus-none : (ys : List Ref) → minus [] ys ≡ []
-unfolding minus without
-minus-none [] = refl
-minus-none (y ∷ ys) = minus-none ys

@@ -8,21 +8,22 @@ use native.Mathlib.Nat.{zero-add}
 use native.Mathlib.Decide.{decLt}
 use lib.ListN.{length, take, drop, length-map, drop-of-length-le}
 use lib.Seq.{drop-drop, length-take-le, take-at}
+use Rattle.ref_def.proofs.Compared.{minus-nil}
 use Rattle.records.specs.Select.{only, keep}
 use Rattle.records.proofs.Lists.{pairs-drop}
 use Rattle.records.proofs.Counts.{keep-length, count-length}
 use Rattle.item.specs.Items.{Fields}
-use Rattle.cut.specs.Refs.{Ref, refOf, sameRef}
-use Rattle.refs.specs.Compared.{among, refsAmong, sorted, minus}
-use Rattle.plan.specs.Outputs.{refNumbers}
-use Rattle.plan.specs.Reading.{refsIn}
-use Rattle.lines.specs.Lines.{Laid}
-use Rattle.lines.proofs.Laws.{Going, going-turn, going-done, laid-none, length-lay}
-use Rattle.sorting.specs.Order.{upward, ordered, pairAt, startsBefore}
-use Rattle.sorting.proofs.Order.{sorted-ordered}
-use Rattle.sorting.proofs.Pairs.{pair-cons, refs-length, refs-laid, take-few}
+use Rattle.cut_def.specs.Refs.{Ref, refOf, sameRef}
+use Rattle.ref_def.specs.Compared.{among, refsAmong, sorted, minus}
+use Rattle.plan_def.specs.Outputs.{refNumbers}
+use Rattle.plan_def.specs.ReadBack.{refsIn}
+use Rattle.plan_lines.specs.Lines.{Laid}
+use Rattle.plan_lines.proofs.Laws.{Going, going-turn, going-done, laid-none, length-lay}
+use Rattle.ref_sort.specs.Order.{upward, ordered, pairAt, startsBefore}
+use Rattle.ref_sort.proofs.Order.{sorted-ordered}
+use Rattle.ref_sort.proofs.Pairs.{pair-cons, refs-length, refs-laid, take-few}
 use Rattle.ref_minus.specs.Walk.{refsNamed, refNamed, startsWith, past}
-use Rattle.ref_minus.proofs.Minus.{past-is, minus-turn, minus-none}
+use Rattle.ref_minus.proofs.Minus.{past-is, minus-turn}
 
 -- ---- one pair of a slice, if it is there
 
@@ -93,7 +94,7 @@ module _ (xs ys : List ℕ) (n : ℕ) (out₀ : List ℕ) where
 
   pub walk-done : (i j m : ℕ) (out : List ℕ) → length xs / 2 ≤ i → Walking i j m out → Laid refNumbers 2 n (minus (refsIn xs) (refsIn ys)) out₀ m out
   walk-done i j m out h g =
-      let w : minus (drop i (refsIn xs)) (drop j (refsIn ys)) ≡ [] = rw (gone xs i h) (minus-none (drop j (refsIn ys))) in
+      let w : minus (drop i (refsIn xs)) (drop j (refsIn ys)) ≡ [] = rw (gone xs i h) (minus-nil (drop j (refsIn ys))) in
       going-done refNumbers 2 n (minus (refsIn xs) (refsIn ys)) out₀ m out (rw w at g)
 
 -- ---- the references of a list, sorted

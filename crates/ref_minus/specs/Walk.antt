@@ -4,8 +4,8 @@ use mathlib.Core.List.{List, [], _∷_, map}
 use Prim.Native.Nat.{ℕ}
 use Rattle.records.specs.Select.{only, keep}
 use Rattle.item.specs.Items.{Fields}
-use Rattle.cut.specs.Refs.{Ref, refOf, sameRef}
-use Rattle.refs.specs.Compared.{among, refBefore}
+use Rattle.cut_def.specs.Refs.{Ref, refOf, sameRef}
+use Rattle.ref_def.specs.Compared.{among, refBefore}
 
 -- the references of the items that name one of these extents, in the list's order
 abbrev pub refsNamed : List ℕ → List Fields → List Ref

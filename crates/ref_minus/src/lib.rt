@@ -8,13 +8,14 @@ ghost use mathlib.Core.Bool.{true, not};
 ghost use mathlib.Core.List.{[], _∷_};
 ghost use Prim.Native.Nat.{_+_, _*_, _/_, _<_, _≤_, _^_};
 ghost use lib.ListN.{length, take, drop};
+ghost use Rattle.records.specs.Lent.{old, new};
 ghost use Rattle.records.specs.Select.{only};
 ghost use Rattle.item.specs.Items.{fields, items};
-ghost use Rattle.refs.specs.Compared.{refsAmong, minus};
-ghost use Rattle.plan.specs.Outputs.{refNumbers};
-ghost use Rattle.plan.specs.Reading.{refsIn};
-ghost use Rattle.lines.specs.Lines.{Laid};
-ghost use Rattle.sorting.specs.Order.{ordered};
+ghost use Rattle.ref_def.specs.Compared.{refsAmong, minus};
+ghost use Rattle.plan_def.specs.Outputs.{refNumbers};
+ghost use Rattle.plan_def.specs.ReadBack.{refsIn};
+ghost use Rattle.plan_lines.specs.Lines.{Laid};
+ghost use Rattle.ref_sort.specs.Order.{ordered};
 ghost use Rattle.ref_minus.specs.Walk.{refsNamed, refNamed, startsWith, past};
 
 // ---- the references of a list
@@ -22,19 +23,19 @@ ghost use Rattle.ref_minus.specs.Walk.{refsNamed, refNamed, startsWith, 
 // An item's reference as line n, if it names one of two extents.
 fn put_named(item: Item, one: u64, two: u64, out: &mut [u64], n: usize) -> usize
     requires { ⌜ n + 1 < 2 ^ 64 ⌝ }
-    ensures { λ r. ⌜ Laid refNumbers 2 n (refNamed (one ∷ two ∷ []) (fields item)) (now (out .entry)) r (now (out .exit)) ⌝ }
+    ensures { λ r. ⌜ Laid refNumbers 2 n (refNamed (one ∷ two ∷ []) (fields item)) (old out) r (new out) ⌝ }
 {
-    if refs::is_among(one, two, item) {
-        return lines::put_ref(out, n, item.extent_start(), item.reference());
+    if ref_def::is_among(one, two, item) {
+        return plan_lines::put_ref(out, n, item.extent_start(), item.reference());
     }
     n
 }
 
 // Those of all items, as lines.
 fn collect(list: &[u8], one: u64, two: u64, out: &mut [u64]) -> usize
-    ensures { λ r. ⌜ Laid refNumbers 2 0 (refsNamed (one ∷ two ∷ []) (items (now (list .entry)))) (now (out .entry)) r (now (out .exit)) ⌝ }
+    ensures { λ r. ⌜ Laid refNumbers 2 0 (refsNamed (one ∷ two ∷ []) (items (old list))) (old out) r (new out) ⌝ }
 {
-    let k = list.len() / 70;
+    let k = list.len() / item::RECORD;
     let mut m: usize = 0;
     for i in 0..k {
         m = put_named(item::item_at(list, i), one, two, out, m);
@@ -45,11 +46,11 @@ fn collect(list: &[u8], one: u64, two: u64, out: &mut [u64]) -> usize
 // Those of all items in order, as the first lines of a buffer; how many there are.
 fn sorted_refs(list: &[u8], one: u64, two: u64, buf: &mut [u64], spare: &mut [u64]) -> usize
     requires { ⌜ (length (items (now list)) * 2 ≤ length (now buf)) × (length (now buf) ≤ length (now spare)) ⌝ }
-    ensures { λ r. ⌜ (r ≤ length (items (now (list .entry)))) × (refsIn (take (r * 2) (now (buf .exit))) ≡ refsAmong (one ∷ two ∷ []) (items (now (list .entry)))) ⌝ }
+    ensures { λ r. ⌜ (r ≤ length (items (old list))) × (refsIn (take (r * 2) (new buf)) ≡ refsAmong (one ∷ two ∷ []) (items (old list))) ⌝ }
 {
     let n = collect(list, one, two, buf);
     let end = n * 2;
-    sorting::sort_refs(&mut buf[..end], spare);
+    ref_sort::sort_refs(&mut buf[..end], spare);
     n
 }
 
@@ -57,7 +58,7 @@ fn sorted_refs(list: &[u8], one: u64, two: u64, buf: &mut [u64], spare: &mut [u6
 
 // Whether pair k of a slice is there and is the pair s, p.
 fn is_there(ys: &[u64], k: usize, s: u64, p: u64) -> bool
-    ensures { λ r. ⌜ r ≡ startsWith (record { start = s; offset = p }) (drop k (refsIn (now (ys .entry)))) ⌝ }
+    ensures { λ r. ⌜ r ≡ startsWith (record { start = s; offset = p }) (drop k (refsIn (old ys))) ⌝ }
 {
     if k < ys.len() / 2 {
         return both(ys[k * 2] == s, ys[k * 2 + 1] == p);
@@ -68,10 +69,10 @@ fn is_there(ys: &[u64], k: usize, s: u64, p: u64) -> bool
 // From pair j of a slice on, the first that is not before the pair s, p.
 fn skip(ys: &[u64], j: usize, s: u64, p: u64) -> usize
     requires { ⌜ j ≤ length (now ys) / 2 ⌝ }
-    ensures { λ r. ⌜ (r ≤ length (now (ys .entry)) / 2) × (drop r (refsIn (now (ys .entry))) ≡ past (record { start = s; offset = p }) (drop j (refsIn (now (ys .entry))))) ⌝ }
+    ensures { λ r. ⌜ (r ≤ length (old ys) / 2) × (drop r (refsIn (old ys)) ≡ past (record { start = s; offset = p }) (drop j (refsIn (old ys)))) ⌝ }
 {
     let mut k = j;
-    while sorting::is_earlier(ys, k, s, p) {
+    while ref_sort::is_earlier(ys, k, s, p) {
         k += 1;
     }
     k
@@ -80,18 +81,18 @@ fn skip(ys: &[u64], j: usize, s: u64, p: u64) -> usize
 // A pair as line n, unless it is met.
 fn put_unless(met: bool, out: &mut [u64], n: usize, s: u64, p: u64) -> usize
     requires { ⌜ n + 1 < 2 ^ 64 ⌝ }
-    ensures { λ r. ⌜ Laid refNumbers 2 n (only (not met) (record { start = s; offset = p })) (now (out .entry)) r (now (out .exit)) ⌝ }
+    ensures { λ r. ⌜ Laid refNumbers 2 n (only (not met) (record { start = s; offset = p })) (old out) r (new out) ⌝ }
 {
     if met {
         return n;
     }
-    lines::put_ref(out, n, s, p)
+    plan_lines::put_ref(out, n, s, p)
 }
 
 // The pairs of xs that are left without those of ys, as lines; both are in order.
 fn put_minus(xs: &[u64], ys: &[u64], out: &mut [u64], n: usize) -> usize
     requires { ⌜ (ordered (refsIn (now xs)) ≡ true) × (ordered (refsIn (now ys)) ≡ true) × (n + length (now xs) / 2 < 2 ^ 64) ⌝ }
-    ensures { λ r. ⌜ Laid refNumbers 2 n (minus (refsIn (now (xs .entry))) (refsIn (now (ys .entry)))) (now (out .entry)) r (now (out .exit)) ⌝ }
+    ensures { λ r. ⌜ Laid refNumbers 2 n (minus (refsIn (old xs)) (refsIn (old ys))) (old out) r (new out) ⌝ }
 {
     let k = xs.len() / 2;
     let mut j: usize = 0;
@@ -120,8 +121,9 @@ fn put_difference(
     out: &mut [u64],
     n: usize,
 ) -> usize
-    requires { ⌜ (n + length (items (now x)) < 2 ^ 64) × (length (items (now x)) * 2 ≤ length (now xs)) × (length (items (now y)) * 2 ≤ length (now ys)) × (length (now xs) ≤ length (now spare)) × (length (now ys) ≤ length (now spare)) ⌝ }
-    ensures { λ r. ⌜ Laid refNumbers 2 n (minus (refsAmong (one ∷ two ∷ []) (items (now (x .entry)))) (refsAmong (one ∷ two ∷ []) (items (now (y .entry))))) (now (out .entry)) r (now (out .exit)) ⌝ }
+    requires { ⌜ (n + length (items (now x)) < 2 ^ 64) × (length (items (now x)) * 2 ≤ length (now xs)) × (length (items (now y)) * 2 ≤ length (now ys))
+        × (length (now xs) ≤ length (now spare)) × (length (now ys) ≤ length (now spare)) ⌝ }
+    ensures { λ r. ⌜ Laid refNumbers 2 n (minus (refsAmong (one ∷ two ∷ []) (items (old x))) (refsAmong (one ∷ two ∷ []) (items (old y)))) (old out) r (new out) ⌝ }
 {
     let k = sorted_refs(x, one, two, xs, spare);
     let m = sorted_refs(y, one, two, ys, spare);
@@ -133,7 +135,7 @@ fn put_difference(
 // The same for at most 32 records of x and of y. The buffers are no longer than they need be, as they are zeroed.
 fn put_32(x: &[u8], y: &[u8], one: u64, two: u64, out: &mut [u64], n: usize) -> usize
     requires { ⌜ (n + length (items (now x)) < 2 ^ 64) × (length (items (now x)) ≤ 32) × (length (items (now y)) ≤ 32) ⌝ }
-    ensures { λ r. ⌜ Laid refNumbers 2 n (minus (refsAmong (one ∷ two ∷ []) (items (now (x .entry)))) (refsAmong (one ∷ two ∷ []) (items (now (y .entry))))) (now (out .entry)) r (now (out .exit)) ⌝ }
+    ensures { λ r. ⌜ Laid refNumbers 2 n (minus (refsAmong (one ∷ two ∷ []) (items (old x))) (refsAmong (one ∷ two ∷ []) (items (old y)))) (old out) r (new out) ⌝ }
 {
     let mut xs = [0u64; 64];
     let mut ys = [0u64; 64];
@@ -144,7 +146,7 @@ fn put_32(x: &[u8], y: &[u8], one: u64, two: u64, out: &mut [u64], n: usize) -> 
 // The same for at most 1,024 records of x.
 fn put_1024(x: &[u8], y: &[u8], one: u64, two: u64, out: &mut [u64], n: usize) -> usize
     requires { ⌜ (n + length (items (now x)) < 2 ^ 64) × (length (items (now x)) ≤ 1024) × (length (items (now y)) ≤ 32) ⌝ }
-    ensures { λ r. ⌜ Laid refNumbers 2 n (minus (refsAmong (one ∷ two ∷ []) (items (now (x .entry)))) (refsAmong (one ∷ two ∷ []) (items (now (y .entry))))) (now (out .entry)) r (now (out .exit)) ⌝ }
+    ensures { λ r. ⌜ Laid refNumbers 2 n (minus (refsAmong (one ∷ two ∷ []) (items (old x))) (refsAmong (one ∷ two ∷ []) (items (old y)))) (old out) r (new out) ⌝ }
 {
     let mut xs = [0u64; 2048];
     let mut ys = [0u64; 64];
@@ -156,13 +158,13 @@ fn put_1024(x: &[u8], y: &[u8], one: u64, two: u64, out: &mut [u64], n: usize) -
 // not built into its caller, and so a call with few records does not touch the stack that these buffers take.
 fn put_8192(x: &[u8], y: &[u8], one: u64, two: u64, out: &mut [u64], n: usize) -> usize
     requires { ⌜ (n + length (items (now x)) < 2 ^ 64) × (length (items (now x)) ≤ 8192) × (length (items (now y)) ≤ 32) ⌝ }
-    ensures { λ r. ⌜ Laid refNumbers 2 n (minus (refsAmong (one ∷ two ∷ []) (items (now (x .entry)))) (refsAmong (one ∷ two ∷ []) (items (now (y .entry))))) (now (out .entry)) r (now (out .exit)) ⌝ }
+    ensures { λ r. ⌜ Laid refNumbers 2 n (minus (refsAmong (one ∷ two ∷ []) (items (old x))) (refsAmong (one ∷ two ∷ []) (items (old y)))) (old out) r (new out) ⌝ }
 {
     let mut xs = [0u64; 16384];
     let mut ys = [0u64; 64];
     let mut spare = [0u64; 16384];
     let m = put_difference(x, y, one, two, &mut xs, &mut ys, &mut spare, out, n);
-    if x.len() / 70 > 8192 {
+    if x.len() / item::RECORD > 8192 {
         return put_8192(x, y, one, two, out, n);
     }
     m
@@ -171,13 +173,13 @@ fn put_8192(x: &[u8], y: &[u8], one: u64, two: u64, out: &mut [u64], n: usize) -
 // The same for at most 65,536 records of x. It would never call itself either.
 fn put_65536(x: &[u8], y: &[u8], one: u64, two: u64, out: &mut [u64], n: usize) -> usize
     requires { ⌜ (n + length (items (now x)) < 2 ^ 64) × (length (items (now x)) ≤ 65536) × (length (items (now y)) ≤ 32) ⌝ }
-    ensures { λ r. ⌜ Laid refNumbers 2 n (minus (refsAmong (one ∷ two ∷ []) (items (now (x .entry)))) (refsAmong (one ∷ two ∷ []) (items (now (y .entry))))) (now (out .entry)) r (now (out .exit)) ⌝ }
+    ensures { λ r. ⌜ Laid refNumbers 2 n (minus (refsAmong (one ∷ two ∷ []) (items (old x))) (refsAmong (one ∷ two ∷ []) (items (old y)))) (old out) r (new out) ⌝ }
 {
     let mut xs = [0u64; 131072];
     let mut ys = [0u64; 64];
     let mut spare = [0u64; 131072];
     let m = put_difference(x, y, one, two, &mut xs, &mut ys, &mut spare, out, n);
-    if x.len() / 70 > 65536 {
+    if x.len() / item::RECORD > 65536 {
         return put_65536(x, y, one, two, out, n);
     }
     m
@@ -186,9 +188,9 @@ fn put_65536(x: &[u8], y: &[u8], one: u64, two: u64, out: &mut [u64], n: usize) 
 // The same for at most 65,536 records of x and 32 of y.
 pub fn put_sorted(x: &[u8], y: &[u8], one: u64, two: u64, out: &mut [u64], n: usize) -> usize
     requires { ⌜ (n + length (items (now x)) < 2 ^ 64) × (length (items (now x)) ≤ 65536) × (length (items (now y)) ≤ 32) ⌝ }
-    ensures { λ r. ⌜ Laid refNumbers 2 n (minus (refsAmong (one ∷ two ∷ []) (items (now (x .entry)))) (refsAmong (one ∷ two ∷ []) (items (now (y .entry))))) (now (out .entry)) r (now (out .exit)) ⌝ }
+    ensures { λ r. ⌜ Laid refNumbers 2 n (minus (refsAmong (one ∷ two ∷ []) (items (old x))) (refsAmong (one ∷ two ∷ []) (items (old y)))) (old out) r (new out) ⌝ }
 {
-    let k = x.len() / 70;
+    let k = x.len() / item::RECORD;
     if k <= 32 {
         return put_32(x, y, one, two, out, n);
     }

@@ -8,7 +8,7 @@ use Rattle.endian.specs.Le.{le, num, enc}
 use Rattle.records.specs.Records.{chunks, records}
 use Rattle.records.specs.Stages.{first, firstOf, every, pairs, neighbours}
 use Rattle.item.specs.Items.{items, decode, itemOf, encode, regularItem}
-use Rattle.lists.specs.Lists.{wellKept}
+use Rattle.lists.specs.Lists.{listKept}
 use Rattle.table.specs.Rows.{rows, rowOf, tableKept}
 use Rattle.request.specs.declared.Volume.{Volume}
 use Rattle.request.specs.declared.File.{File}
@@ -62,5 +62,5 @@ cases =
     ∷ []
 
 right : every (λ (c : ℕ × ℕ). eqb (c .0) (c .1)) cases ≡ true
-unfolding cases one two volume file record-257 row lentRefusal lentRefusal2 first firstOf every pairs neighbours items decode itemOf encode records chunks wellKept rows rowOf tableKept le num enc
+unfolding cases one two volume file record-257 row lentRefusal lentRefusal2 first firstOf every pairs neighbours items decode itemOf encode records chunks listKept rows rowOf tableKept le num enc
 right = refl

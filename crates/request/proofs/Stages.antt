@@ -11,7 +11,8 @@ use Rattle.records.specs.Stages.{unless, first, firstOf, every}
 use Rattle.records.proofs.Tests.{either, first-go, first-stop, first-last, first-assoc, firstOf-zero, unless-zero}
 use mathlib.Core.Logic.{⊎-elim}
 use Rattle.item.specs.Items.{Fields, items}
-use Rattle.lists.specs.Lists.{listSized, sharedSound, wellKept, whole}
+use Rattle.lists.specs.Lists.{sharedSound, listKept, wholeSectors}
+use Rattle.lists.specs.Raw.{listSized}
 use Rattle.table.specs.declared.Row.{Row}
 use Rattle.table.specs.Rows.{rows, tableKept}
 use Rattle.request.specs.declared.Volume.{Volume}
@@ -37,7 +38,7 @@ ones-parts list shared table = go (eqb (length list % 70) 0) (leb (length (items
 
 pub lent-groups :
     (v : Volume) (f : File) (list shared table : List ℕ)
-    → first (ones list shared table) (first (first (unless (wellKept (f .number) (items list)) 2) (unless (tableKept (rows table)) 3)) (fours (v .sector) (f .size) list))
+    → first (ones list shared table) (first (first (unless (listKept (f .number) (items list)) 2) (unless (tableKept (rows table)) 3)) (fours (v .sector) (f .size) list))
     ≡ lent v f list shared table
 unfolding lentRefusal firstOf
 lent-groups v f list shared table = rw (ones-parts list shared table) (simp (first-assoc, first-last))
@@ -100,11 +101,11 @@ pub record Accepted (v : Volume) (f : File) (fs : List Fields) (shared : List �
   pub sized : leb (length fs) 65536 ≡ true
   pub shares : sharedSound shared fs ≡ true
   pub «table-sized» : leb (length rs) 65536 ≡ true
-  pub kept : wellKept (f .number) fs ≡ true
+  pub kept : listKept (f .number) fs ≡ true
   pub «table-kept» : tableKept rs ≡ true
   pub sector : sectorSound (v .sector) ≡ true
   pub size : sizeSound (f .size) ≡ true
-  pub sectors : every (whole (v .sector)) fs ≡ true
+  pub sectors : every (wholeSectors (v .sector)) fs ≡ true
 
 pub accepted : (v : Volume) (f : File) (fs : List Fields) (shared : List ℕ) (rs : List Row) → lentRefusal v f fs shared rs ≡ 0 → Accepted v f fs shared rs
 unfolding lentRefusal
@@ -114,20 +115,20 @@ accepted v f fs shared rs h =
       sized = unless-zero (leb (length fs) 65536) 1 (z .0) (λ e. omega arith);
       shares = unless-zero (sharedSound shared fs) 1 (z .1 .0) (λ e. omega arith);
       «table-sized» = unless-zero (leb (length rs) 65536) 1 (z .1 .1 .0) (λ e. omega arith);
-      kept = unless-zero (wellKept (f .number) fs) 2 (z .1 .1 .1 .0) (λ e. omega arith);
+      kept = unless-zero (listKept (f .number) fs) 2 (z .1 .1 .1 .0) (λ e. omega arith);
       «table-kept» = unless-zero (tableKept rs) 3 (z .1 .1 .1 .1 .0) (λ e. omega arith);
       sector = unless-zero (sectorSound (v .sector)) 4 (z .1 .1 .1 .1 .1 .0) (λ e. omega arith);
       size = unless-zero (sizeSound (f .size)) 4 (z .1 .1 .1 .1 .1 .1 .0) (λ e. omega arith);
-      sectors = unless-zero (every (whole (v .sector)) fs) 4 (z .1 .1 .1 .1 .1 .1 .1 .0) (λ e. omega arith);
+      sectors = unless-zero (every (wholeSectors (v .sector)) fs) 4 (z .1 .1 .1 .1 .1 .1 .1 .0) (λ e. omega arith);
     }
 
 -- of two files: both are accepted with the table, and the source has another number unless it is the destination
 pub record Accepted2 (v : Volume) (dst src : File) (own : Bool) (fs : List Fields) (shared : List ℕ) (source : List Fields) (rs : List Row) : Type 0 where
   pub destination : Accepted v dst fs shared rs
   pub «source-sized» : leb (length source) 65536 ≡ true
-  pub «source-kept» : wellKept (src .number) source ≡ true
+  pub «source-kept» : listKept (src .number) source ≡ true
   pub «source-size» : sizeSound (src .size) ≡ true
-  pub «source-sectors» : every (whole (v .sector)) source ≡ true
+  pub «source-sectors» : every (wholeSectors (v .sector)) source ≡ true
   pub other : (own || not (eqb (src .number) (dst .number))) ≡ true
 
 pub accepted2 :
@@ -145,15 +146,15 @@ accepted2 v dst src own fs shared source rs h =
             sized = unless-zero (leb (length fs) 65536) 1 (z .1 .0) (λ e. omega arith);
             shares = unless-zero (sharedSound shared fs) 1 (z .1 .1 .0) (λ e. omega arith);
             «table-sized» = unless-zero (leb (length rs) 65536) 1 (z .1 .1 .1 .0) (λ e. omega arith);
-            kept = unless-zero (wellKept (dst .number) fs) 2 (y .0) (λ e. omega arith);
+            kept = unless-zero (listKept (dst .number) fs) 2 (y .0) (λ e. omega arith);
             «table-kept» = unless-zero (tableKept rs) 3 (x .0) (λ e. omega arith);
             sector = unless-zero (sectorSound (v .sector)) 4 (x .1 .0) (λ e. omega arith);
             size = unless-zero (sizeSound (dst .size)) 4 (x .1 .1 .0) (λ e. omega arith);
-            sectors = unless-zero (every (whole (v .sector)) fs) 4 (x .1 .1 .1 .1 .0) (λ e. omega arith);
+            sectors = unless-zero (every (wholeSectors (v .sector)) fs) 4 (x .1 .1 .1 .1 .0) (λ e. omega arith);
           };
       «source-sized» = unless-zero (leb (length source) 65536) 1 (z .0) (λ e. omega arith);
-      «source-kept» = unless-zero (wellKept (src .number) source) 2 (y .1 .0) (λ e. omega arith);
+      «source-kept» = unless-zero (listKept (src .number) source) 2 (y .1 .0) (λ e. omega arith);
       «source-size» = unless-zero (sizeSound (src .size)) 4 (x .1 .1 .1 .0) (λ e. omega arith);
-      «source-sectors» = unless-zero (every (whole (v .sector)) source) 4 (x .1 .1 .1 .1 .1 .0) (λ e. omega arith);
+      «source-sectors» = unless-zero (every (wholeSectors (v .sector)) source) 4 (x .1 .1 .1 .1 .1 .0) (λ e. omega arith);
       other = unless-zero (own || not (eqb (src .number) (dst .number))) 2 (y .1 .1 .0) (λ e. omega arith);
     }

@@ -1,14 +1,13 @@
 -- What a request is lent, and refusals 1 to 4 of it in the paper's order (document 01, "When a plan is refused").
 use mathlib.Core.Bool.{Bool, _||_, not}
 use mathlib.Core.List.{List, [], _∷_}
-use Prim.Native.Nat.{ℕ, _%_, _^_}
-use lib.Dec.{eqb, leb, ltb}
-use lib.ListN.{length}
+use Prim.Native.Nat.{ℕ, _^_}
+use lib.Dec.{eqb, ltb}
 use Rattle.records.specs.Stages.{unless, first, firstOf, every}
 use Rattle.item.specs.Items.{Fields, items}
-use Rattle.lists.specs.Lists.{sharedSound, wellKept, whole}
+use Rattle.lists.specs.Lists.{wholeRecords, fewRecords, sharedSound, listKept, wholeSectors}
 use Rattle.table.specs.declared.Row.{Row}
-use Rattle.table.specs.Rows.{rows, tableKept}
+use Rattle.table.specs.Rows.{rows, wholeRows, fewRows, tableKept}
 use Rattle.request.specs.declared.Volume.{Volume}
 use Rattle.request.specs.declared.File.{File}
 
@@ -24,14 +23,14 @@ sizeSound size = ltb size (2 ^ 63)
 unfoldable pub lentRefusal : Volume → File → List Fields → (shared : List ℕ) → List Row → ℕ
 lentRefusal v f fs shared rs =
     firstOf
-    (unless (leb (length fs) 65536) 1
+    (unless (fewRecords fs) 1
     ∷ unless (sharedSound shared fs) 1
-    ∷ unless (leb (length rs) 65536) 1
-    ∷ unless (wellKept (f .number) fs) 2
+    ∷ unless (fewRows rs) 1
+    ∷ unless (listKept (f .number) fs) 2
     ∷ unless (tableKept rs) 3
     ∷ unless (sectorSound (v .sector)) 4
     ∷ unless (sizeSound (f .size)) 4
-    ∷ unless (every (whole (v .sector)) fs) 4
+    ∷ unless (every (wholeSectors (v .sector)) fs) 4
     ∷ [])
 
 -- of a clone's two files, the destination's list first; own: the source is the destination itself. Otherwise "a second
@@ -39,27 +38,27 @@ lentRefusal v f fs shared rs =
 unfoldable pub lentRefusal2 : Volume → (dst src : File) → Bool → List Fields → (shared : List ℕ) → (source : List Fields) → List Row → ℕ
 lentRefusal2 v dst src own fs shared source rs =
     firstOf
-    (unless (leb (length source) 65536) 1
-    ∷ unless (leb (length fs) 65536) 1
+    (unless (fewRecords source) 1
+    ∷ unless (fewRecords fs) 1
     ∷ unless (sharedSound shared fs) 1
-    ∷ unless (leb (length rs) 65536) 1
-    ∷ unless (wellKept (dst .number) fs) 2
-    ∷ unless (wellKept (src .number) source) 2
+    ∷ unless (fewRows rs) 1
+    ∷ unless (listKept (dst .number) fs) 2
+    ∷ unless (listKept (src .number) source) 2
     ∷ unless (own || not (eqb (src .number) (dst .number))) 2
     ∷ unless (tableKept rs) 3
     ∷ unless (sectorSound (v .sector)) 4
     ∷ unless (sizeSound (dst .size)) 4
     ∷ unless (sizeSound (src .size)) 4
-    ∷ unless (every (whole (v .sector)) fs) 4
-    ∷ unless (every (whole (v .sector)) source) 4
+    ∷ unless (every (wholeSectors (v .sector)) fs) 4
+    ∷ unless (every (wholeSectors (v .sector)) source) 4
     ∷ [])
 
 -- 1: "a list or table of broken length"
 abbrev pub listBroken : List ℕ → ℕ
-listBroken list = unless (eqb (length list % 70) 0) 1
+listBroken list = unless (wholeRecords list) 1
 
 abbrev pub tableBroken : List ℕ → ℕ
-tableBroken table = unless (eqb (length table % 5) 0) 1
+tableBroken table = unless (wholeRows table) 1
 
 -- from the bytes that are lent
 abbrev pub lent : Volume → File → (list shared table : List ℕ) → ℕ

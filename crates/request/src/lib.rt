@@ -1,8 +1,10 @@
 // What a request is lent, the checks behind refusals 1 to 4, and what an operation answers.
 use records::either;
 use records::first;
+use records::refusal;
 use records::unless;
 ghost use mathlib.Core.Path.{_≡_};
+ghost use Rattle.records.specs.Lent.{old};
 ghost use Rattle.records.specs.Stages.{unless};
 ghost use Rattle.request.specs.Lent.{sectorSound, sizeSound, lent, lent2};
 ghost use Rattle.request.specs.Raw.{fours, fours2, ones, twos};
@@ -77,25 +79,25 @@ pub fn sector_sound(s: u64) -> bool
 pub fn size_refusal(size: u64) -> u8
     ensures { λ r. ⌜ r ≡ unless (sizeSound size) 4 ⌝ }
 {
-    unless(size < 9223372036854775808, 4)
+    unless(size < 9223372036854775808, refusal::SECTOR)
 }
 
 // Refusals 4 of one file: the sector, its size, the sectors of its list.
 fn fours(sector: u64, size: u64, list: &[u8]) -> u8
-    ensures { λ r. ⌜ r ≡ fours sector size (now (list .entry)) ⌝ }
+    ensures { λ r. ⌜ r ≡ fours sector size (old list) ⌝ }
 {
     if !sector_sound(sector) {
-        return 4;
+        return refusal::SECTOR;
     }
     first(size_refusal(size), lists::sectors_refusal(list, sector))
 }
 
 // The same of two files.
 fn fours2(sector: u64, size: u64, size2: u64, list: &[u8], source: &[u8]) -> u8
-    ensures { λ r. ⌜ r ≡ fours2 sector size size2 (now (list .entry)) (now (source .entry)) ⌝ }
+    ensures { λ r. ⌜ r ≡ fours2 sector size size2 (old list) (old source) ⌝ }
 {
     if !sector_sound(sector) {
-        return 4;
+        return refusal::SECTOR;
     }
     first(
         first(size_refusal(size), size_refusal(size2)),
@@ -108,7 +110,7 @@ fn fours2(sector: u64, size: u64, size2: u64, list: &[u8], source: &[u8]) -> u8
 
 // Refusals 1 of a list, its shared bytes and the table.
 fn ones(list: &[u8], shared: &[u8], table: &[u64]) -> u8
-    ensures { λ r. ⌜ r ≡ ones (now (list .entry)) (now (shared .entry)) (now (table .entry)) ⌝ }
+    ensures { λ r. ⌜ r ≡ ones (old list) (old shared) (old table) ⌝ }
 {
     first(
         lists::list_size_refusal(list),
@@ -121,20 +123,20 @@ fn ones(list: &[u8], shared: &[u8], table: &[u64]) -> u8
 
 // Refusals 2 of two lists: each is kept, and the second is not the first one's under another name.
 fn twos(number: u64, number2: u64, own: bool, list: &[u8], source: &[u8]) -> u8
-    ensures { λ r. ⌜ r ≡ twos number number2 own (now (list .entry)) (now (source .entry)) ⌝ }
+    ensures { λ r. ⌜ r ≡ twos number number2 own (old list) (old source) ⌝ }
 {
     first(
         lists::list_refusal(list, number),
         first(
             lists::list_refusal(source, number2),
-            unless(either(own, number2 != number), 2),
+            unless(either(own, number2 != number), refusal::NOT_KEPT),
         ),
     )
 }
 
 // Refusals 1 to 4 of what a punch or a fallocate is lent.
 pub fn lent_refusal(v: Volume, f: File, list: &[u8], shared: &[u8], table: &[u64]) -> u8
-    ensures { λ r. ⌜ r ≡ lent v f (now (list .entry)) (now (shared .entry)) (now (table .entry)) ⌝ }
+    ensures { λ r. ⌜ r ≡ lent v f (old list) (old shared) (old table) ⌝ }
 {
     let kept = first(
         lists::list_refusal(list, f.number),
@@ -157,7 +159,7 @@ pub fn lent_refusal2(
     source: &[u8],
     table: &[u64],
 ) -> u8
-    ensures { λ r. ⌜ r ≡ lent2 v dst src own (now (list .entry)) (now (shared .entry)) (now (source .entry)) (now (table .entry)) ⌝ }
+    ensures { λ r. ⌜ r ≡ lent2 v dst src own (old list) (old shared) (old source) (old table) ⌝ }
 {
     let sizes = first(lists::list_size_refusal(source), ones(list, shared, table));
     let kept = first(

@@ -8,7 +8,8 @@ use lib.ListN.{length}
 use Rattle.records.specs.Records.{chunks, records}
 use Rattle.records.specs.Stages.{unless, every, neighbours}
 use Rattle.table.proofs.Laws.{rows-length}
-use Rattle.table.specs.Rows.{rowOf, rows, tableSized, tableKept, findFrom, find, oneMoreReference}
+use Rattle.table.specs.Rows.{rowOf, rows, tableKept, findFrom, find, oneMoreReference}
+use Rattle.table.specs.Raw.{tableSized}
 use Rattle.table.specs.Windows.{windowInside}
 use Rattle.table.specs.declared.Found.{Found}
 use Rattle.table.specs.declared.Found.the-variants.{At, Missing}

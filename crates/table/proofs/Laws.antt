@@ -11,7 +11,8 @@ use lib.ListN.{length, getD, drop}
 use lib.Seq.{getD-drop}
 use borrow.Author.Tests.{ltb-true, leb-true, eqb-true, eqb-false, not-true, lt-ltb, le-leb, eq-eqb, ne-eqb}
 use Rattle.records.specs.Records.{records}
-use Rattle.records.specs.Stages.{unless, first, every, pairs, neighbours, sieve}
+use Rattle.records.specs.Stages.{unless, first, every, pairs, neighbours}
+use Rattle.records.specs.Raw.{sieve}
 use Rattle.records.proofs.Tests.{both, both-left, both-right, same, every-at, every-map, first-go, first-stop, unless-zero}
 use Rattle.records.proofs.Loops.{rest, rest-all, chunks-length, chunks-at}
 use Rattle.table.specs.Rows.{rowOf, rows, rowSound, rowBefore, tableKept, findFrom, find, withRow}

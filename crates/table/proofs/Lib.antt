@@ -1,3 +1,5 @@
 pub mod Laws
 pub mod Halves
 pub mod Examples
+pub mod Windows
+pub mod Samples

@@ -1,4 +1,4 @@
--- What private functions compute, as the code has it: a row as it is read, and the turn of `table_refusal`, a loop over
+-- For the code only: 1 of a table in one test, a row as it is read, and the turn of `table_refusal`, a loop over
 -- the rows whose state is where the row before ends.
 use mathlib.Core.Bool.{Bool, _&&_, not}
 use mathlib.Core.List.{List}
@@ -7,6 +7,11 @@ use lib.Dec.{eqb, leb, ltb}
 use lib.ListN.{getD}
 use Rattle.records.specs.Stages.{unless}
 use Rattle.table.specs.declared.Row.{Row}
+use Rattle.table.specs.Rows.{rows, wholeRows, fewRows}
+
+-- neither of broken length nor over-long
+abbrev pub tableSized : List ℕ → Bool
+tableSized t = wholeRows t && fewRows (rows t)
 
 -- the row at place k of a table
 abbrev pub rowAt : List ℕ → ℕ → Row

@@ -22,9 +22,13 @@ rowNumbers r = r .start ∷ r .length ∷ r .references ∷ r .made ∷ r .keyed
 unfoldable pub rows : List ℕ → List Row
 rows t = records rowOf 5 t
 
--- refusal 1: "a list or table of broken length, over-long"; "The extents table has 0 to 65,536 rows"
-abbrev pub tableSized : List ℕ → Bool
-tableSized t = eqb (length t % 5) 0 && leb (length (rows t)) 65536
+-- refusal 1: "a .. table of broken length": "rows of five u64"
+abbrev pub wholeRows : List ℕ → Bool
+wholeRows t = eqb (length t % 5) 0
+
+-- refusal 1: "over-long": "The extents table has 0 to 65,536 rows"
+abbrev pub fewRows : List Row → Bool
+fewRows rs = leb (length rs) 65536
 
 -- one row: start and length are not 0, "their sum fits", keyed is 0 or 1
 abbrev pub rowSound : Row → Bool

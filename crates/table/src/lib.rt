@@ -1,15 +1,20 @@
 // The lent table of extents: its rows, the search for one, and `window_inside_extent`.
+use item::Item;
 use records::both;
+use records::either;
+use records::refusal;
 use records::sum_fits;
 use records::unless;
 ghost use mathlib.Core.Path.{_≡_};
 ghost use mathlib.Core.Bool.{true};
 ghost use Prim.Native.Nat.{_+_, _*_, _≤_};
 ghost use lib.ListN.{length, drop};
+ghost use Rattle.records.specs.Lent.{old};
 ghost use Rattle.records.specs.Stages.{unless};
-ghost use Rattle.table.specs.Rows.{rowOf, rows, tableSized, tableKept, find, oneMoreReference};
-ghost use Rattle.table.specs.Windows.{windowInside};
-ghost use Rattle.table.specs.Raw.{rowAt, rowRefusal};
+ghost use Rattle.item.specs.Items.{fields};
+ghost use Rattle.table.specs.Rows.{rowOf, rows, tableKept, find, oneMoreReference};
+ghost use Rattle.table.specs.Windows.{windowInside, windowSound};
+ghost use Rattle.table.specs.Raw.{rowAt, rowRefusal, tableSized};
 
 // An extent: where it lies, how many items name it, the generation that made it, and whether its references are
 // kept as items of their own.
@@ -30,7 +35,7 @@ pub enum Found {
 // The row at place `at` of a table.
 fn row_in(table: &[u64], at: usize) -> Row
     requires { ⌜ at + 5 ≤ length (now table) ⌝ }
-    ensures { λ r. ⌜ r ≡ rowAt (now (table .entry)) at ⌝ }
+    ensures { λ r. ⌜ r ≡ rowAt (old table) at ⌝ }
 {
     Row {
         start: table[at],
@@ -44,17 +49,17 @@ fn row_in(table: &[u64], at: usize) -> Row
 // Row n of a table.
 pub fn row_at(table: &[u64], n: usize) -> Row
     requires { ⌜ n * 5 + 5 ≤ length (now table) ⌝ }
-    ensures { λ r. ⌜ r ≡ rowOf (drop (n * 5) (now (table .entry))) ⌝ }
+    ensures { λ r. ⌜ r ≡ rowOf (drop (n * 5) (old table)) ⌝ }
 {
     row_in(table, n * 5)
 }
 
 // Refusal 1 of a table: broken length, or over-long.
 pub fn table_size_refusal(table: &[u64]) -> u8
-    ensures { λ r. ⌜ r ≡ unless (tableSized (now (table .entry))) 1 ⌝ }
+    ensures { λ r. ⌜ r ≡ unless (tableSized (old table)) 1 ⌝ }
 {
     let n = table.len();
-    unless(both(n % 5 == 0, n / 5 <= 65536), 1)
+    unless(both(n % 5 == 0, n / 5 <= 65536), refusal::BROKEN)
 }
 
 // Refusal 3 of one row: one that starts before `from`, has no length, ends outside 64 bits, or is not keyed by 0 or 1.
@@ -69,14 +74,14 @@ fn row_refusal(from: u64, row: Row) -> u8
             ),
             row.keyed <= 1,
         ),
-        3,
+        refusal::TABLE,
     )
 }
 
 // Refusal 3: a table that is not as it should be. `from` is where the row before ends; 1 before the first, since no row
 // starts at 0.
 pub fn table_refusal(table: &[u64]) -> u8
-    ensures { λ r. ⌜ r ≡ unless (tableKept (rows (now (table .entry)))) 3 ⌝ }
+    ensures { λ r. ⌜ r ≡ unless (tableKept (rows (old table))) 3 ⌝ }
 {
     let mut from: u64 = 1;
     for i in 0..table.len() / 5 {
@@ -93,7 +98,7 @@ pub fn table_refusal(table: &[u64]) -> u8
 // The row that starts at `start`, by halves.
 pub fn find_row(table: &[u64], start: u64) -> Found
     requires { ⌜ tableKept (rows (now table)) ≡ true ⌝ }
-    ensures { λ r. ⌜ r ≡ find start (rows (now (table .entry))) ⌝ }
+    ensures { λ r. ⌜ r ≡ find start (rows (old table)) ⌝ }
 {
     let mut lo = 0;
     let mut hi = table.len() / 5;
@@ -141,10 +146,25 @@ pub fn item_window_inside(bytenr: u64, position: u64, len: u64, extent_len: u64)
 // Refusals 14 and 15 of one more reference to the extent at `start`.
 pub fn one_more_reference(table: &[u64], start: u64) -> u8
     requires { ⌜ tableKept (rows (now table)) ≡ true ⌝ }
-    ensures { λ r. ⌜ r ≡ oneMoreReference start (rows (now (table .entry))) ⌝ }
+    ensures { λ r. ⌜ r ≡ oneMoreReference start (rows (old table)) ⌝ }
 {
     let Found::At(_, row) = find_row(table, start) else {
-        return 14;
+        return refusal::NO_ROW;
     };
-    unless(row.keyed == 0, 15)
+    unless(row.keyed == 0, refusal::KEYED)
+}
+
+// Whether an item's window lies inside the extent, if it is not compressed.
+pub fn window_sound(item: Item, row: Row) -> bool
+    ensures { λ r. ⌜ r ≡ windowSound (fields item) row ⌝ }
+{
+    either(
+        item.compression() != 0,
+        item_window_inside(
+            item.extent_start(),
+            item.position(),
+            item.length(),
+            row.length,
+        ),
+    )
 }

@@ -8,11 +8,11 @@ use Rattle.table.specs.declared.Row.{Row}
 use Rattle.request.specs.declared.Volume.{Volume}
 use Rattle.request.specs.declared.File.{File}
 use Rattle.request.specs.Answers.{Outcome}
-use Rattle.plan.specs.Plans.{Plan}
-use Rattle.plan.specs.Outputs.{Rooms}
-use Rattle.punch_plan.specs.Punch.{punch}
-use Rattle.fallocate_plan.specs.Fallocate.{fallocate}
-use Rattle.clone_plan.specs.Clone.{clone}
+use Rattle.plan_def.specs.Plans.{Plan}
+use Rattle.plan_def.specs.Outputs.{Rooms}
+use Rattle.punch_def.specs.Punch.{punch}
+use Rattle.fallocate_def.specs.Fallocate.{fallocate}
+use Rattle.clone_def.specs.Clone.{clone}
 
 -- (volume (sector 4096) (total 1073741824) (generation 7) (snapshot 0))
 abbrev pub volume : Volume
@@ -42,8 +42,8 @@ item key generation ram kind start length position window =
     }
 
 -- (item (key 0) (kind 1) (extent 1048576 16384) (window 0 16384)), and the same of kind 2
-abbrev pub whole : (kind : ℕ) → Fields
-whole kind = item 0 0 0 kind 1048576 16384 0 16384
+abbrev pub oneItem : (kind : ℕ) → Fields
+oneItem kind = item 0 0 0 kind 1048576 16384 0 16384
 
 -- (extent (at 1048576) (len 16384) (refs 1) (made 5) (keyed 0))
 abbrev pub extent : (references : ℕ) → Row
@@ -55,13 +55,13 @@ rooms = record { edits = 710; shares = 20; unrefs = 20; releases = 20; adds = 30
 -- a request on that file
 abbrev pub punched : (kind offset length : ℕ) (places : List ℕ) → Outcome Plan
 punched kind offset length places =
-    punch volume (fileOf 16384) (record { offset = offset; length = length }) (whole kind ∷ []) (0 ∷ []) (extent 1 ∷ []) places rooms
+    punch volume (fileOf 16384) (record { offset = offset; length = length }) (oneItem kind ∷ []) (0 ∷ []) (extent 1 ∷ []) places rooms
 
 abbrev pub allocated : (offset length : ℕ) (places : List ℕ) → Outcome Plan
 allocated offset length places =
-    fallocate volume (fileOf 16384) (record { offset = offset; length = length }) false (whole 1 ∷ []) (0 ∷ []) (extent 1 ∷ []) places rooms
+    fallocate volume (fileOf 16384) (record { offset = offset; length = length }) false (oneItem 1 ∷ []) (0 ∷ []) (extent 1 ∷ []) places rooms
 
 -- cloned into itself
 abbrev pub cloned : (size from to length : ℕ) → Outcome Plan
 cloned size from to length =
-    clone volume (fileOf size) (fileOf size) true (record { from = from; to = to; length = length }) (whole 1 ∷ []) (0 ∷ []) [] (extent 1 ∷ []) rooms
+    clone volume (fileOf size) (fileOf size) true (record { from = from; to = to; length = length }) (oneItem 1 ∷ []) (0 ∷ []) [] (extent 1 ∷ []) rooms

@@ -5,22 +5,22 @@ use mathlib.Core.List.{List, [], _∷_}
 use Prim.Native.Nat.{ℕ, _-_, _^_}
 use Rattle.item.specs.Items.{reference}
 use Rattle.request.specs.Answers.{Outcome, plan, nothing, refused}
-use Rattle.cut.specs.Refs.{Ref}
-use Rattle.cut.specs.Edits.{Edit, put, delete}
-use Rattle.plan.specs.Plans.{Plan, Add, Write}
-use Rattle.change.specs.Preallocs.{Span, pieceLimit, preallocPieces}
+use Rattle.cut_def.specs.Refs.{Ref}
+use Rattle.cut_def.specs.Edits.{Edit, put, delete}
+use Rattle.plan_def.specs.Plans.{Plan, Add, Write}
+use Rattle.change_def.specs.Preallocs.{Stretch, pieceLimit, preallocPieces}
 use Rattle.worked.specs.Ground.{item, punched, allocated, cloned}
 
 -- what an example speaks of: a request's answer, the pieces of a hole, or a number
 pub data Told : Type 0 where
   answer : Outcome Plan → Told
-  pieces : List Span → Told
+  pieces : List Stretch → Told
   number : ℕ → Told
 
 abbrev ref : ℕ → ℕ → Ref
 ref start offset = record { start = start; offset = offset }
 
-abbrev span : ℕ → ℕ → Span
+abbrev span : ℕ → ℕ → Stretch
 span start length = record { start = start; length = length }
 
 -- what is asked, and what the paper says

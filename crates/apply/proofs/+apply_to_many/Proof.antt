@@ -60,7 +60,7 @@ apply-to-many-apply-zeroed-requires : (t : ℕ) → apply-to-many-lts.Need-apply
 ) (apply-to-many-at t) apply-to-many.Post
 apply-to-many-apply-zeroed-requires t c κs =
     let a = c .before .before .before .before .before .before .before .before .before .before .before .before in
-    (a .pre .1, zeroed 65536 (a .args .rows) (a .pre .1 .fewRows))
+    (a .pre .1, zeroed 65536 (a .args .target .rows) (a .pre .1 .fewRows))
 
 apply-to-many-apply-to-many-requires : (t : ℕ) → apply-to-many-lts.Need-apply-to-many-requires (
   apply-zeroed-reads.Asked,
@@ -69,8 +69,8 @@ apply-to-many-apply-to-many-requires : (t : ℕ) → apply-to-many-lts.Need-appl
   apply-to-many.Post,
 ) (apply-to-many-at t) apply-to-many.Post
 apply-to-many-apply-to-many-requires t c κs =
-    let a = c .before .before .before .before .before .before .before .before .before .before .before .before .before .before .before .before .before .before .before .before .before .before .before in
-    absurd (no-more (a .args .rows) (a .pre .1 .fewRows) (c .before .before .if1 .taken))
+    let a = c .before .before .before .before .before .before .before .before .before .before .before .before .before .before .before .before .before .before .before .before .before .before .before .before in
+    absurd (no-more (a .args .target .rows) (a .pre .1 .fewRows) (c .before .before .if1 .taken))
 
 apply-to-many-same-length : (t : ℕ) → apply-to-many-lts.Need-same-length (
   apply-zeroed-reads.Asked,
@@ -79,8 +79,8 @@ apply-to-many-same-length : (t : ℕ) → apply-to-many-lts.Need-same-length (
   apply-to-many.Post,
 ) (apply-to-many-at t) apply-to-many.Post
 apply-to-many-same-length t c =
-    let a = c .before .before .before .before .before .before .before .before .before .before .before .before .before .before .before .before .before .before .before .before .before .before .before .before .before .before .before .before in
-    absurd (no-more (a .args .rows) (a .pre .1 .fewRows) (c .before .before .before .before .before .before .before .if1 .taken))
+    let a = c .before .before .before .before .before .before .before .before .before .before .before .before .before .before .before .before .before .before .before .before .before .before .before .before .before .before .before .before .before in
+    absurd (no-more (a .args .target .rows) (a .pre .1 .fewRows) (c .before .before .before .before .before .before .before .if1 .taken))
 
 apply-to-many-same-length-2 : (t : ℕ) → apply-to-many-lts.Need-same-length-2 (
   apply-zeroed-reads.Asked,
@@ -89,8 +89,8 @@ apply-to-many-same-length-2 : (t : ℕ) → apply-to-many-lts.Need-same-length-2
   apply-to-many.Post,
 ) (apply-to-many-at t) apply-to-many.Post
 apply-to-many-same-length-2 t c =
-    let a = c .before .before .before .before .before .before .before .before .before .before .before .before .before .before .before .before .before .before .before .before .before .before .before .before .before .before .before .before in
-    absurd (no-more (a .args .rows) (a .pre .1 .fewRows) (c .before .before .before .before .before .before .before .if1 .taken))
+    let a = c .before .before .before .before .before .before .before .before .before .before .before .before .before .before .before .before .before .before .before .before .before .before .before .before .before .before .before .before .before in
+    absurd (no-more (a .args .target .rows) (a .pre .1 .fewRows) (c .before .before .before .before .before .before .before .if1 .taken))
 
 apply-to-many-returns : (t : ℕ) → apply-to-many-lts.Need-returns (
   apply-zeroed-reads.Asked,
@@ -99,8 +99,8 @@ apply-to-many-returns : (t : ℕ) → apply-to-many-lts.Need-returns (
   apply-to-many.Post,
 ) (apply-to-many-at t) apply-to-many.Post
 apply-to-many-returns t c =
-    let a = c .before .before .before .before .before .before .before .before .before .before .before .before .before .before .before .before .before .before .before .before .before .before .before .before .before .before .before .before in
-    absurd (no-more (a .args .rows) (a .pre .1 .fewRows) (c .before .before .before .before .before .before .before .if1 .taken))
+    let a = c .before .before .before .before .before .before .before .before .before .before .before .before .before .before .before .before .before .before .before .before .before .before .before .before .before .before .before .before .before in
+    absurd (no-more (a .args .target .rows) (a .pre .1 .fewRows) (c .before .before .before .before .before .before .before .if1 .taken))
 
 apply-to-many-same-length-3 : (t : ℕ) → apply-to-many-lts.Need-same-length-3 (
   apply-zeroed-reads.Asked,
@@ -124,7 +124,7 @@ apply-to-many-returns-2 : (t : ℕ) → apply-to-many-lts.Need-returns-2 (
   apply-to-many-below t,
   apply-to-many.Post,
 ) (apply-to-many-at t) apply-to-many.Post
-apply-to-many-returns-2 t c = c .before .before .before .before .before .before .before .before .apply-zeroed .ensures
+apply-to-many-returns-2 t c = c .before .before .before .before .before .before .before .before .before .apply-zeroed .ensures
 
 pub +apply-to-many-spec : {M : Type 1} → statement M
 +apply-to-many-spec = close μ-apply-to-many λ t. apply-to-many-lts.spec (

@@ -2,7 +2,7 @@ use mathlib.Core.Path.{sym}
 use denote.Ref.{now}
 use Prim.Native.Nat.{_*_}
 use lib.Seq.{length-take-le}
-use Rattle.apply_refusals.specs.Stages.{partsOf}
+use Rattle.apply_def.specs.Lent.{partsOf}
 use Rattle.apply.proofs.Accepted.{lent-ones, lent-others, lent-listed, lent-tabled, lent-ready, lent-apply}
 use Rattle.apply.proofs.Whole.{met-refused, met-same}
 use native.Mathlib.Omega.{arith}

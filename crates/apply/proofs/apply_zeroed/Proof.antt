@@ -2,8 +2,7 @@ use mathlib.Core.Path.{refl, sym}
 use denote.Ref.{now}
 use Prim.Native.Nat.{_*_}
 use lib.Seq.{length-take-le}
-use Rattle.applying.specs.Lent.{planLent}
-use Rattle.apply_refusals.specs.Stages.{partsOf}
+use Rattle.apply_def.specs.Lent.{planLent, partsOf}
 use Rattle.apply.proofs.Accepted.{lent-facts, lent-rows}
 use native.Mathlib.Omega.{arith}
 use borrow.Author.Needs.{needs}
@@ -12,31 +11,31 @@ use Rattle.apply.proofs.apply_zeroed.Tie as tie
 
 mul-stop : tie.Need-mul-stop
 mul-stop c =
-    let a = c .before .before .before .before .before .before .before .before .before .before in
+    let a = c .before .before .before .before .before .before .before .before .before .before .before in
     omega (arith, a .pre .0 .tabled, a .good)
 
 slice-reshare-prefix-count-lines : tie.Need-slice-reshare-prefix-count-lines
 slice-reshare-prefix-count-lines c =
-    let a = c .before .before .before .before .before .before .before .before .before .before in
+    let a = c .before .before .before .before .before .before .before .before .before .before .before in
     omega (arith, a .pre .0 .tabled)
 
 slice-aggregate-count-lines : tie.Need-slice-aggregate-count-lines
 slice-aggregate-count-lines c =
-    let a = c .before .before .before .before .before .before .before .before .before .before .before in
+    let a = c .before .before .before .before .before .before .before .before .before .before .before .before in
     let t = a .args in
-    sym (length-take-le (t .rows * 5) (now (t .table)) (omega (arith, a .pre .0 .tabled)))
+    sym (length-take-le (t .target .rows * 5) (now (t .table)) (omega (arith, a .pre .0 .tabled)))
 
 count-lines-requires : tie.Need-count-lines-requires
 count-lines-requires c κs =
-    let a = c .before .before .before .before .before .before .before .before .before .before .before .before .before .before in
+    let a = c .before .before .before .before .before .before .before .before .before .before .before .before .before .before .before in
     let t = a .args in
-    let f = lent-rows (t .number) (t .sector) (t .items) (t .rows) (now (t .list)) (now (t .table)) (now (t .edits)) (a .pre .0) in
+    let f = lent-rows (t .target .number) (t .target .sector) (t .target .items) (t .target .rows) (now (t .list)) (now (t .table)) (now (t .edits)) (a .pre .0) in
     let z = a .pre .1 in
-    (lent-facts (t .number) (t .sector) (t .items) (t .rows) (now (t .list)) (now (t .table)) (now (t .edits)) (a .pre .0) .tabled, omega (arith, f, z .gains), omega (arith, f, z .losses), omega (arith, f, z .leaves), λ y l. z .zero y (omega (arith, f)))
+    (lent-facts (t .target .number) (t .target .sector) (t .target .items) (t .target .rows) (now (t .list)) (now (t .table)) (now (t .edits)) (a .pre .0) .tabled, omega (arith, f, z .gains), omega (arith, f, z .losses), omega (arith, f, z .leaves), λ y l. z .zero y (omega (arith, f)))
 
 apply-counted-requires : tie.Need-apply-counted-requires
 apply-counted-requires c κs =
-    let a = c .before .before .before .before .before .before .before .before .before .before .before .before .before .before .before .before .before .before .before .before .before .before .before .before .before .before in
+    let a = c .before .before .before .before .before .before .before .before .before .before .before .before .before .before .before .before .before .before .before .before .before .before .before .before .before .before .before in
     let t = a .args in
     let z = a .pre .1 in
     let l = c .before .before .before .before .before .before .before .before .before .before .before .count-lines in
@@ -59,7 +58,7 @@ same-length-5 c = search needs
 
 returns : tie.Need-returns
 returns c =
-    let a = c .before .before .before .before .before .before .before .before .before .before .before .before .before .before .before .before .before .before .before .before .before .before .before .before .before .before .before .before .before .before .before in
+    let a = c .before .before .before .before .before .before .before .before .before .before .before .before .before .before .before .before .before .before .before .before .before .before .before .before .before .before .before .before .before .before .before .before in
     let t = a .args in
     let l = c .before .before .before .before .before .before .before .before .before .before .before .before .before .before .before .before .count-lines in
     c .before .before .before .before .apply-counted .ensures (planLent (partsOf (now (t .edits)) (now (t .shares)) (now (t .unrefs)) (now (t .releases)) (now (t .adds)))) (record { edited = refl; added = refl; counted = l .ensures .1; lines = l .ensures .0 })

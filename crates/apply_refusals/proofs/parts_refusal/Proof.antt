@@ -6,7 +6,7 @@ use lib.Dec.{eqb}
 use lib.ListN.{length}
 use Rattle.records.specs.Stages.{first}
 use Rattle.records.proofs.Tests.{first-unless}
-use Rattle.results.specs.Checks.{editsSized}
+use Rattle.apply_walk.specs.Checks.{editsSized}
 use native.Mathlib.Omega.{arith}
 use borrow.Author.Needs.{needs}
 use Rattle.apply_refusals.proofs.parts_refusal.Statement.{statement}

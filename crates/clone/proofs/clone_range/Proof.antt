@@ -2,7 +2,7 @@ use Rattle.clone.specs.Raw.{copyingOf}
 use denote.Ref.{now}
 use mathlib.Core.List.{[]}
 use mathlib.Core.Path.{_∙_, ap, sym}
-use Rattle.plan.specs.Outputs.{outs}
+use Rattle.plan_def.specs.Outputs.{outs}
 use Rattle.request.specs.Answers.{said}
 use Rattle.clone.proofs.Finishing.{chosen-now, range-refused, range-nothing, range-ends, range-replacing, range-numbers, range-finished}
 use borrow.Author.Needs.{needs}

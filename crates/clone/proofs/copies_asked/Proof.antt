@@ -18,8 +18,8 @@ splits-refusal-requires c κs = let q = c .before .before .before .before .befor
 source-records-requires : tie.Need-source-records-requires
 source-records-requires c κs = search needs
 
-unless-requires : tie.Need-unless-requires
-unless-requires c κs = search needs
+whenever-requires : tie.Need-whenever-requires
+whenever-requires c κs = search needs
 
 first-requires : tie.Need-first-requires
 first-requires c κs = search needs
@@ -31,7 +31,7 @@ first-requires-3 : tie.Need-first-requires-3
 first-requires-3 c κs = search needs
 
 returns : tie.Need-returns
-returns c = let a = c .before .before .before .before .before .before .before .before .before .before .before .args in copies-told (a .generation) (a .c) (c .before .before .before .before .before .before .before .cut-for .result) (items (now (a .list))) (items (now (a .source))) (rows (now (a .table))) _ _ _ _ _ _ _ (c .before .before .before .before .before .before .before .cut-for .ensures) (c .before .before .before .before .before .before .drops-refusal .ensures) (c .before .before .before .before .before .splits-refusal .ensures) (c .before .before .before .before .source-records .ensures) (c .before .before .before .unless .ensures) (c .before .before .first .ensures) (c .before .first2 .ensures) (c .first3 .ensures)
+returns c = let a = c .before .before .before .before .before .before .before .before .before .before .before .args in copies-told (a .generation) (a .c) (c .before .before .before .before .before .before .before .cut-for .result) (items (now (a .list))) (items (now (a .source))) (rows (now (a .table))) _ _ _ _ _ _ _ (c .before .before .before .before .before .before .before .cut-for .ensures) (c .before .before .before .before .before .before .drops-refusal .ensures) (c .before .before .before .before .before .splits-refusal .ensures) (c .before .before .before .before .source-records .ensures) (c .before .before .before .whenever .ensures) (c .before .before .first .ensures) (c .before .first2 .ensures) (c .first3 .ensures)
 
 pub copies-asked-spec : {M : Type 1} → statement M
 copies-asked-spec =
@@ -41,7 +41,7 @@ copies-asked-spec =
     drops-refusal-requires
     splits-refusal-requires
     source-records-requires
-    unless-requires
+    whenever-requires
     first-requires
     first-requires-2
     first-requires-3

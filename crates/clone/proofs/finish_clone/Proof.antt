@@ -3,7 +3,7 @@ use mathlib.Core.List.{[]}
 use mathlib.Core.Path.{refl}
 use Rattle.item.specs.Items.{items}
 use Rattle.table.specs.Rows.{rows}
-use Rattle.plan.specs.Outputs.{outs}
+use Rattle.plan_def.specs.Outputs.{outs}
 use Rattle.clone.proofs.Finishing.{finish-refused, finish-planned}
 use borrow.Author.Needs.{needs}
 use Rattle.clone.proofs.finish_clone.Statement.{statement}

@@ -3,7 +3,7 @@ use mathlib.Core.Bool.{true}
 use borrow.Author.Needs.{needs}
 use denote.Ref.{now}
 use Rattle.item.specs.Items.{items}
-use Rattle.segment.proofs.Segments.{runs-bounded}
+use Rattle.cut_segment.proofs.Segments.{runs-bounded}
 use Rattle.fallocate.proofs.Refusing.{sum-swept, sum-limit}
 use Rattle.fallocate.proofs.hole_bytes.Statement.{statement}
 use Rattle.fallocate.proofs.hole_bytes.Tie as tie

@@ -5,8 +5,8 @@ use Rattle.records.proofs.Loops.{rest, stage-turn, stage-stop, stage-done}
 use Rattle.item.specs.Items.{decode, items}
 use Rattle.item.proofs.Laws.{item-decode}
 use Rattle.punch.proofs.Sectors.{fitting}
-use Rattle.fallocate_plan.specs.Fallocate.{itemRefusal}
-use Rattle.fallocate.specs.Raw.{itemBetween}
+use Rattle.change_def.specs.Rounding.{roundDown, roundUp}
+use Rattle.fallocate_def.specs.Fallocate.{itemRefusal}
 use Rattle.fallocate.proofs.Asking.{items-start}
 use denote.Ref.{now}
 use native.Mathlib.Omega.{arith}
@@ -15,7 +15,7 @@ use Rattle.fallocate.proofs.items_refusal.Statement.{statement}
 use Rattle.fallocate.proofs.items_refusal.Tie as tie
 
 abbrev Inv-loop : tie.InvT-loop
-Inv-loop size sector offset stop list from to i₀ n i = (i ≤ n) × (stage (itemBetween size from to) (rest decode 70 list n i) ≡ stage (itemRefusal size sector offset stop) (items list))
+Inv-loop size sector offset stop list from to i₀ n i = (i ≤ n) × (stage (itemRefusal size from to) (rest decode 70 list n i) ≡ stage (itemRefusal size (roundDown sector offset) (roundUp sector stop)) (items list))
 
 abbrev μ-loop : tie.MeasureT-loop
 μ-loop size sector offset stop list from to i₀ n i = n - i

@@ -2,8 +2,8 @@ use denote.Ref.{now}
 use mathlib.Core.Path.{ap}
 use mathlib.Core.List.{[]}
 use Rattle.request.specs.declared.File.{File}
-use Rattle.plan.specs.Outputs.{outs, roomsOf}
-use Rattle.clone_plan.specs.Clone.{cloneLent}
+use Rattle.plan_def.specs.Outputs.{outs, roomsOf}
+use Rattle.clone_def.specs.Clone.{cloneLent}
 use Rattle.ffi.proofs.Telling.{export-short, export-told}
 use borrow.Author.Needs.{needs}
 use Rattle.ffi.proofs.zag_clone.Statement.{statement}

@@ -4,7 +4,7 @@ use mathlib.Core.List.{[], _∷_}
 use native.Mathlib.Omega.{arith}
 use lib.Seq.{sets-eq}
 use Rattle.endian.specs.Le.{put}
-use Rattle.apply.specs.Outcomes.{said}
+use Rattle.apply.specs.Outcomes.{appliedSaid}
 use Rattle.ffi_apply.proofs.Telling.{heard-done}
 use borrow.Author.Needs.{needs}
 use Rattle.ffi_apply.proofs.tell.Statement.{statement}
@@ -30,7 +30,7 @@ same-length c = search needs
 
 returns-2 : tie.Need-returns-2
 unfolding put
-returns-2 c = heard-done _ _ _ _ _ (ap said (c .before .a2 .given .1)) (sets-eq (_ ∷ _ ∷ []) (now (c .before .before .before .args .answer)) 0 (omega arith))
+returns-2 c = heard-done _ _ _ _ _ (ap appliedSaid (c .before .a2 .given .1)) (sets-eq (_ ∷ _ ∷ []) (now (c .before .before .before .args .answer)) 0 (omega arith))
 
 pub tell-spec : {M : Type 1} → statement M
 tell-spec =

@@ -1,11 +1,12 @@
 use mathlib.Core.Path.{_≡_, _∙_, sym}
 use Prim.Native.Nat.{_-_, _≤_}
 use borrow.Author.Needs.{needs}
-use Rattle.records.specs.Stages.{sieve, unless}
+use Rattle.records.specs.Stages.{unless}
+use Rattle.records.specs.Raw.{sieve}
 use Rattle.records.proofs.Loops.{rest, sieve-turn, sieve-stop, sieve-done}
 use Rattle.item.specs.Items.{decode, items}
 use Rattle.item.proofs.Laws.{item-decode, rest-items}
-use Rattle.lists.specs.Lists.{wellKept}
+use Rattle.lists.specs.Lists.{listKept}
 use Rattle.lists.specs.Raw.{turn, next}
 use Rattle.lists.proofs.Order.{pass-all}
 use native.Mathlib.Omega.{arith}
@@ -13,7 +14,7 @@ use Rattle.lists.proofs.list_refusal.Statement.{statement}
 use Rattle.lists.proofs.list_refusal.Tie as tie
 
 abbrev Inv-loop : tie.InvT-loop
-Inv-loop list file n last₀ i₀ last i = (i ≤ n) × (sieve (turn file) next last (rest decode 70 list n i) ≡ unless (wellKept file (items list)) 2)
+Inv-loop list file n last₀ i₀ last i = (i ≤ n) × (sieve (turn file) next last (rest decode 70 list n i) ≡ unless (listKept file (items list)) 2)
 
 abbrev μ-loop : tie.MeasureT-loop
 μ-loop list file n last₀ i₀ last i = n - i

@@ -6,23 +6,23 @@ use Rattle.records.proofs.Loops.{rest, stage-turn, stage-stop, stage-done}
 use Rattle.records.proofs.Tests.{stage-every}
 use Rattle.item.specs.Items.{Fields, decode, items}
 use Rattle.item.proofs.Laws.{item-decode, rest-items}
-use Rattle.lists.specs.Lists.{whole}
+use Rattle.lists.specs.Lists.{wholeSectors}
 use native.Mathlib.Omega.{arith}
 use Rattle.lists.proofs.sectors_refusal.Statement.{statement}
 use Rattle.lists.proofs.sectors_refusal.Tie as tie
 
 -- the refusal of one record
 abbrev one : ℕ → Fields → ℕ
-one sector f = unless (whole sector f) 4
+one sector f = unless (wholeSectors sector f) 4
 
 abbrev Inv-loop : tie.InvT-loop
-Inv-loop list sector n i₀ i = (i ≤ n) × (stage (one sector) (rest decode 70 list n i) ≡ unless (every (whole sector) (items list)) 4)
+Inv-loop list sector n i₀ i = (i ≤ n) × (stage (one sector) (rest decode 70 list n i) ≡ unless (every (wholeSectors sector) (items list)) 4)
 
 abbrev μ-loop : tie.MeasureT-loop
 μ-loop list sector n i₀ i = n - i
 
 loop-holds : tie.Need-loop-holds Inv-loop μ-loop
-loop-holds c = (omega arith, rw rest-items (stage-every (whole (c .before .args .sector)) 4 (λ e. omega arith) _))
+loop-holds c = (omega arith, rw rest-items (stage-every (wholeSectors (c .before .args .sector)) 4 (λ e. omega arith) _))
 
 item-at-requires : tie.Need-item-at-requires Inv-loop μ-loop
 item-at-requires c κs = omega arith

@@ -1,7 +1,7 @@
 use denote.Ref.{now}
 use Rattle.punch.proofs.Operating.{passed, shares-many, runs-now, asked-now, punch-refused, punch-nothing, punch-changed}
-use Rattle.laying.proofs.Outputs.{met-refused, met-nothing}
-use Rattle.punch.specs.Raw.{planIn}
+use Rattle.change_lay.proofs.Outputs.{met-refused, met-nothing}
+use Rattle.punch.specs.Raw.{punchPlanSaid}
 use Rattle.punch.specs.declared.PunchPlan.{PunchPlan}
 use borrow.Author.Tests.{ltb-true}
 use mathlib.Core.Path.{_∙_, sym, ap}
@@ -9,76 +9,54 @@ use native.Mathlib.Omega.{arith}
 use borrow.Author.Needs.{needs}
 use Rattle.punch.proofs.punch_hole.Statement.{statement}
 use Rattle.punch.proofs.punch_hole.Tie as tie
-use Rattle.punch.proofs.punch_hole.Reads as reads
-use Rattle.punch.proofs.punch_hole.Lts as lts
-use Rattle.change.proofs.no_holes.Reads as no-holes-reads
-use Rattle.punch.proofs.plan_punch.Reads as plan-punch-reads
-use Rattle.punch.proofs.range_refusal.Reads as range-refusal-reads
-use Rattle.ranges.proofs.change_range.Reads as change-range-reads
 
--- src/lib.rt:227:9
 range-refusal-requires : tie.Need-range-refusal-requires
 range-refusal-requires c κs = search needs
 
--- src/lib.rt:229:9
 returns : tie.Need-returns
 returns c = let a = c .before .before .before .before .before .before .before .before .before .before .before .before .args in met-refused _ _ _ _ (punch-refused (a .v) (a .f) (a .r) (now (a .list)) (now (a .shared)) (now (a .table)) _ _ _ (c .before .range-refusal .ensures) (c .if1 .taken))
 
--- src/lib.rt:237:9
 add-plan-punch : tie.Need-add-plan-punch
 add-plan-punch c = let a = c .before .before .before .before .before .before .before .before .before .before .before .before .before .args in let q = passed (a .v) (a .f) (a .r) (now (a .list)) (now (a .shared)) (now (a .table)) (sym (c .before .before .range-refusal .ensures) ∙ c .before .if1 .left) in omega (arith, q .limit)
 
--- src/lib.rt:231:9
 plan-punch-requires : tie.Need-plan-punch-requires
 plan-punch-requires c κs = let a = c .before .before .before .before .before .before .before .before .before .before .before .before .before .args in let q = passed (a .v) (a .f) (a .r) (now (a .list)) (now (a .shared)) (now (a .table)) (sym (c .before .before .range-refusal .ensures) ∙ c .before .if1 .left) in (q .accepted .sector, ltb-true _ _ (q .accepted .size), q .limit, shares-many (a .v) (a .f) (a .r) (now (a .list)) (now (a .shared)) (now (a .table)) q, runs-now (a .v) (a .f) (a .r) (now (a .list)) (now (a .shared)) (now (a .table)) q)
 
--- src/lib.rt:240:31
 enum-told : tie.Need-enum-told
 enum-told c = search needs
 
--- src/lib.rt:241:27
 enum-known-plan : tie.Need-enum-known-plan
 enum-known-plan c = search needs
 
--- src/lib.rt:245:13
 no-holes-requires : tie.Need-no-holes-requires
 no-holes-requires c κs = search needs
 
--- src/lib.rt:241:33
 change-range-requires : tie.Need-change-range-requires
-change-range-requires c κs = let a = c .before .before .before .before .before .before .before .before .before .before .before .before .before .before .before .before .before .before .before .before .before .before .before .before .args in let q = passed (a .v) (a .f) (a .r) (now (a .list)) (now (a .shared)) (now (a .table)) (sym (c .before .before .before .before .before .before .before .before .before .before .before .before .before .range-refusal .ensures) ∙ c .before .before .before .before .before .before .before .before .before .before .before .before .if1 .left) in asked-now (a .v) (a .f) (a .r) (now (a .list)) (now (a .shared)) (now (a .table)) q (c .before .before .before .before .before .before .before .before .plan .given .0 .0) _ (c .before .before .before .before .before .before .no-holes .ensures) (ap (λ (p : PunchPlan). planIn p (a .f .size)) (sym (c .before .before .before .before .before .before .before .before .plan .given .1)) ∙ c .before .before .before .before .before .before .before .before .before .before .plan-punch .ensures)
+change-range-requires c κs = let a = c .before .before .before .before .before .before .before .before .before .before .before .before .before .before .before .before .before .before .before .before .before .before .before .before .args in let q = passed (a .v) (a .f) (a .r) (now (a .list)) (now (a .shared)) (now (a .table)) (sym (c .before .before .before .before .before .before .before .before .before .before .before .before .before .range-refusal .ensures) ∙ c .before .before .before .before .before .before .before .before .before .before .before .before .if1 .left) in asked-now (a .v) (a .f) (a .r) (now (a .list)) (now (a .shared)) (now (a .table)) q (c .before .before .before .before .before .before .before .before .plan .given .0 .0) _ (c .before .before .before .before .before .before .no-holes .ensures) (ap (λ (p : PunchPlan). punchPlanSaid p (a .f .size)) (sym (c .before .before .before .before .before .before .before .before .plan .given .1)) ∙ c .before .before .before .before .before .before .before .before .before .before .plan-punch .ensures)
 
--- src/lib.rt:210:1
 returns-2 : tie.Need-returns-2
-returns-2 c = let a = c .before .before .before .before .before .before .before .before .before .before .before .before .before .before .before .before .args in met-nothing _ _ _ (punch-nothing (a .v) (a .f) (a .r) (now (a .list)) (now (a .shared)) (now (a .table)) _ _ (sym (c .before .before .before .before .before .range-refusal .ensures) ∙ c .before .before .before .before .if1 .left) (ap (λ (p : PunchPlan). planIn p (a .f .size)) (sym (c .enum-told .given .1)) ∙ c .before .before .plan-punch .ensures))
+returns-2 c = let a = c .before .before .before .before .before .before .before .before .before .before .before .before .before .before .before .before .args in met-nothing _ _ _ (punch-nothing (a .v) (a .f) (a .r) (now (a .list)) (now (a .shared)) (now (a .table)) _ _ (sym (c .before .before .before .before .before .range-refusal .ensures) ∙ c .before .before .before .before .if1 .left) (ap (λ (p : PunchPlan). punchPlanSaid p (a .f .size)) (sym (c .enum-told .given .1)) ∙ c .before .before .plan-punch .ensures))
 
--- src/lib.rt:210:1
 same-length : tie.Need-same-length
 same-length c = search needs
 
--- src/lib.rt:210:1
 same-length-2 : tie.Need-same-length-2
 same-length-2 c = search needs
 
--- src/lib.rt:210:1
 same-length-3 : tie.Need-same-length-3
 same-length-3 c = search needs
 
--- src/lib.rt:210:1
 same-length-4 : tie.Need-same-length-4
 same-length-4 c = search needs
 
--- src/lib.rt:210:1
 same-length-5 : tie.Need-same-length-5
 same-length-5 c = search needs
 
--- src/lib.rt:210:1
 same-length-6 : tie.Need-same-length-6
 same-length-6 c = search needs
 
--- src/lib.rt:210:1
 returns-3 : tie.Need-returns-3
-returns-3 c = let a = c .before .before .before .before .before .before .before .before .before .before .before .before .before .before .before .before .before .before .before .before .before .before .before .before .before .before .before .before .before .before .before .before .before .before .before .before .before .args in rw (punch-changed (a .v) (a .f) (a .r) (now (a .list)) (now (a .shared)) (now (a .table)) _ _ (sym (c .before .before .before .before .before .before .before .before .before .before .before .before .before .before .before .before .before .before .before .before .before .before .before .before .before .before .range-refusal .ensures) ∙ c .before .before .before .before .before .before .before .before .before .before .before .before .before .before .before .before .before .before .before .before .before .before .before .before .before .if1 .left) (c .before .before .before .before .before .before .before .before .before .before .before .before .before .before .before .before .before .before .before .before .before .plan .given .0 .0) _ (c .before .before .before .before .before .before .before .before .before .before .before .before .before .before .before .before .before .before .before .no-holes .ensures) (ap (λ (p : PunchPlan). planIn p (a .f .size)) (sym (c .before .before .before .before .before .before .before .before .before .before .before .before .before .before .before .before .before .before .before .before .before .plan .given .1)) ∙ c .before .before .before .before .before .before .before .before .before .before .before .before .before .before .before .before .before .before .before .before .before .before .before .plan-punch .ensures)) (c .before .before .before .before .before .before .before .before .before .before .before .before .change-range .ensures)
+returns-3 c = let a = c .before .before .before .before .before .before .before .before .before .before .before .before .before .before .before .before .before .before .before .before .before .before .before .before .before .before .before .before .before .before .before .before .before .before .before .before .before .args in rw (punch-changed (a .v) (a .f) (a .r) (now (a .list)) (now (a .shared)) (now (a .table)) _ _ (sym (c .before .before .before .before .before .before .before .before .before .before .before .before .before .before .before .before .before .before .before .before .before .before .before .before .before .before .range-refusal .ensures) ∙ c .before .before .before .before .before .before .before .before .before .before .before .before .before .before .before .before .before .before .before .before .before .before .before .before .before .if1 .left) (c .before .before .before .before .before .before .before .before .before .before .before .before .before .before .before .before .before .before .before .before .before .plan .given .0 .0) _ (c .before .before .before .before .before .before .before .before .before .before .before .before .before .before .before .before .before .before .before .no-holes .ensures) (ap (λ (p : PunchPlan). punchPlanSaid p (a .f .size)) (sym (c .before .before .before .before .before .before .before .before .before .before .before .before .before .before .before .before .before .before .before .before .before .plan .given .1)) ∙ c .before .before .before .before .before .before .before .before .before .before .before .before .before .before .before .before .before .before .before .before .before .before .before .plan-punch .ensures)) (c .before .before .before .before .before .before .before .before .before .before .before .before .change-range .ensures)
 
 pub punch-hole-spec : {M : Type 1} → statement M
 punch-hole-spec =

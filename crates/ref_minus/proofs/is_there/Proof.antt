@@ -5,43 +5,33 @@ use borrow.Author.Needs.{needs}
 use Rattle.ref_minus.proofs.is_there.Statement.{statement}
 use Rattle.ref_minus.proofs.is_there.Tie as tie
 
--- src/lib.rt:73:24
 mul-both : tie.Need-mul-both
 mul-both c = search needs
 
--- src/lib.rt:73:21
 mul-both-2 : tie.Need-mul-both-2
 mul-both-2 c = search needs
 
--- src/lib.rt:73:21
 shared-slice-read-both : tie.Need-shared-slice-read-both
 shared-slice-read-both c = search needs
 
--- src/lib.rt:73:40
 mul-both-3 : tie.Need-mul-both-3
 mul-both-3 c = search needs
 
--- src/lib.rt:73:40
 add-both : tie.Need-add-both
 add-both c = search needs
 
--- src/lib.rt:73:37
 mul-both-4 : tie.Need-mul-both-4
 mul-both-4 c = search needs
 
--- src/lib.rt:73:37
 shared-slice-read-both-2 : tie.Need-shared-slice-read-both-2
 shared-slice-read-both-2 c = search needs
 
--- src/lib.rt:73:9
 both-requires : tie.Need-both-requires
 both-requires c κs = search needs
 
--- src/lib.rt:73:9
 returns : tie.Need-returns
 returns c = let a = c .before .before .before .before .before .args in c .both .ensures ∙ same-there (now (a .ys)) (a .k) (record { start = a .s; offset = a .p }) (c .before .before .before .if1 .taken)
 
--- src/lib.rt:69:1
 returns-2 : tie.Need-returns-2
 returns-2 c = let a = c .before .before .args in same-gone (now (a .ys)) (a .k) (record { start = a .s; offset = a .p }) (c .if1 .left)
 

@@ -6,59 +6,45 @@ use borrow.Author.Needs.{needs}
 use Rattle.ref_minus.proofs.put_difference.Statement.{statement}
 use Rattle.ref_minus.proofs.put_difference.Tie as tie
 
--- src/lib.rt:136:9
 sorted-refs-requires : tie.Need-sorted-refs-requires
 sorted-refs-requires c κs = search needs
 
--- src/lib.rt:137:9
 sorted-refs-requires-2 : tie.Need-sorted-refs-requires-2
 sorted-refs-requires-2 c κs = search needs
 
--- src/lib.rt:138:15
 mul-end : tie.Need-mul-end
 mul-end c = search needs
 
--- src/lib.rt:139:16
 mul-stop : tie.Need-mul-stop
 mul-stop c = search needs
 
--- src/lib.rt:140:15
 slice-reshare-prefix-put-minus : tie.Need-slice-reshare-prefix-put-minus
 slice-reshare-prefix-put-minus c = search needs
 
--- src/lib.rt:140:15
 slice-aggregate-put-minus : tie.Need-slice-aggregate-put-minus
 slice-aggregate-put-minus c = sym (length-take-le _ _ (omega (arith, c .before .before .before .before .before .before .before .before .before .before .before .before .sorted-refs .ensures .0, c .before .before .before .before .before .before .before .before .before .before .before .before .before .before .before .before .before .before .before .before .before .pre .1, c .before .before .before .before .before .before .before .before .before .before .before .before .sorted-refs .kept)))
 
--- src/lib.rt:140:27
 slice-reshare-prefix-put-minus-2 : tie.Need-slice-reshare-prefix-put-minus-2
 slice-reshare-prefix-put-minus-2 c = search needs
 
--- src/lib.rt:140:27
 slice-aggregate-put-minus-2 : tie.Need-slice-aggregate-put-minus-2
 slice-aggregate-put-minus-2 c = sym (length-take-le _ _ (omega (arith, c .before .before .before .before .before .before .sorted-refs2 .ensures .0, c .before .before .before .before .before .before .before .before .before .before .before .before .before .before .before .before .before .before .before .before .before .before .pre .2, c .before .before .before .before .before .before .sorted-refs2 .kept)))
 
--- src/lib.rt:140:5
 put-minus-requires : tie.Need-put-minus-requires
 put-minus-requires c κs = (among-rises _ _ _ (c .before .before .before .before .before .before .before .before .before .before .before .before .before .before .sorted-refs .ensures .1), among-rises _ _ _ (c .before .before .before .before .before .before .before .sorted-refs2 .ensures .1), part-fits _ _ _ _ _ (c .before .before .before .before .before .before .before .before .before .before .before .before .before .before .sorted-refs .ensures .0) (c .before .before .before .before .before .before .before .before .before .before .before .before .before .before .before .before .before .before .before .before .before .before .before .pre .0))
 
--- src/lib.rt:122:1
 same-length : tie.Need-same-length
 same-length c = search needs
 
--- src/lib.rt:122:1
 same-length-2 : tie.Need-same-length-2
 same-length-2 c = search needs
 
--- src/lib.rt:122:1
 same-length-3 : tie.Need-same-length-3
 same-length-3 c = search needs
 
--- src/lib.rt:122:1
 same-length-4 : tie.Need-same-length-4
 same-length-4 c = search needs
 
--- src/lib.rt:122:1
 returns : tie.Need-returns
 returns c = laid-minus _ _ _ _ _ _ _ _ (c .before .before .before .before .before .before .before .before .before .before .before .before .before .before .before .before .before .sorted-refs .ensures .1) (c .before .before .before .before .before .before .before .before .before .before .sorted-refs2 .ensures .1) (c .before .before .put-minus .ensures)
 

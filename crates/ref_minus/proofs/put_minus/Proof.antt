@@ -5,10 +5,10 @@ use Prim.Native.Nat.{_+_, _-_, _/_, _≤_}
 use lib.ListN.{length}
 use borrow.Author.Needs.{needs}
 use Rattle.records.proofs.Picks.{only-few}
-use Rattle.plan.specs.Outputs.{refNumbers}
-use Rattle.lines.proofs.Laws.{going-first}
-use Rattle.lines.proofs.Loops.{going-length}
-use Rattle.sorting.specs.Order.{pairAt}
+use Rattle.plan_def.specs.Outputs.{refNumbers}
+use Rattle.plan_lines.proofs.Laws.{going-first}
+use Rattle.plan_lines.proofs.Loops.{going-length}
+use Rattle.ref_sort.specs.Order.{pairAt}
 use Rattle.ref_minus.proofs.Turns.{met-there, Walking, walk-turn, walk-done}
 use native.Mathlib.Omega.{arith}
 use Rattle.ref_minus.proofs.put_minus.Statement.{statement}
@@ -20,63 +20,48 @@ Inv-loop xs ys out₀ n k j₀ m₀ i₀ out j m i = (i ≤ k) × (j ≤ length 
 abbrev μ-loop : tie.MeasureT-loop
 μ-loop xs ys out₀ n k j₀ m₀ i₀ out j m i = k - i
 
--- src/lib.rt:109:5
 loop-holds : tie.Need-loop-holds Inv-loop μ-loop
 loop-holds c = (omega arith, omega arith, omega arith, going-first refNumbers 2 _ _ _)
 
--- src/lib.rt:110:20
 mul-s : tie.Need-mul-s Inv-loop μ-loop
 mul-s c = omega arith
 
--- src/lib.rt:110:17
 mul-s-2 : tie.Need-mul-s-2 Inv-loop μ-loop
 mul-s-2 c = omega arith
 
--- src/lib.rt:110:17
 shared-slice-read-s : tie.Need-shared-slice-read-s Inv-loop μ-loop
 shared-slice-read-s c = omega arith
 
--- src/lib.rt:111:20
 mul-p : tie.Need-mul-p Inv-loop μ-loop
 mul-p c = omega arith
 
--- src/lib.rt:111:20
 add-p : tie.Need-add-p Inv-loop μ-loop
 add-p c = omega arith
 
--- src/lib.rt:111:17
 mul-p-2 : tie.Need-mul-p-2 Inv-loop μ-loop
 mul-p-2 c = omega arith
 
--- src/lib.rt:111:17
 shared-slice-read-p : tie.Need-shared-slice-read-p Inv-loop μ-loop
 shared-slice-read-p c = omega arith
 
--- src/lib.rt:112:13
 skip-requires : tie.Need-skip-requires Inv-loop μ-loop
 skip-requires c κs = c .before .before .before .loop .inv .1
 
--- src/lib.rt:113:13
 is-there-requires : tie.Need-is-there-requires Inv-loop μ-loop
 is-there-requires c κs = search needs
 
--- src/lib.rt:114:9
 put-unless-requires : tie.Need-put-unless-requires Inv-loop μ-loop
 put-unless-requires c κs = omega (arith, c .before .before .before .before .before .before .loop .inv .2, c .before .before .before .before .before .loop-test .taken, c .before .before .before .before .before .before .before .before .before .before .pre .2)
 
--- src/lib.rt:115:9
 counted-requires : tie.Need-counted-requires Inv-loop μ-loop
 counted-requires c κs = omega (arith, c .before .before .before .before .before .skip .ensures .0)
 
--- src/lib.rt:109:9
 add-i : tie.Need-add-i Inv-loop μ-loop
 add-i c = omega arith
 
--- src/lib.rt:109:5
 loop-less : tie.Need-loop-less Inv-loop μ-loop
 loop-less c = omega arith
 
--- src/lib.rt:109:5
 loop-again : tie.Need-loop-again Inv-loop μ-loop
 loop-again c =
     let a = c .before .before .before .before .before .before .before .before .before .before .before .before .before .before .args in
@@ -86,11 +71,9 @@ loop-again c =
     let at = c .before .before .before .before .before .before .skip .result in
     (omega arith, met-there (now (a .ys)) at x met _ (c .before .before .before .before .before .is-there .ensures) (c .before .before .before .before .before .before .skip .ensures .0) (c .counted .ensures), omega (arith, l .inv .2, c .before .before .before .put-unless .ensures .lines, only-few (not met) x), walk-turn (now (a .xs)) (now (a .ys)) (a .n) _ (l .i) (l .j) _ _ (c .before .before .before .before .before .before .before .before .before .before .before .before .before .before .pre .0) (c .before .before .before .before .before .before .before .before .before .before .before .before .before .before .pre .1) (c .before .before .before .before .before .before .before .before .before .loop-test .taken) (l .inv .3) at (c .before .before .before .before .before .before .skip .ensures .1) met (c .before .before .before .before .before .is-there .ensures) _ _ (c .before .before .before .put-unless .ensures) _ (c .counted .ensures))
 
--- src/lib.rt:102:1
 same-length : tie.Need-same-length Inv-loop μ-loop
 same-length c = going-length refNumbers 2 (omega arith) (λ r. refl) _ _ _ _ _ _ (c .before .loop .inv .3)
 
--- src/lib.rt:102:1
 returns : tie.Need-returns Inv-loop μ-loop
 returns c = let a = c .before .before .before .before .before .args in walk-done (now (a .xs)) (now (a .ys)) (a .n) _ (c .before .loop .i) (c .before .loop .j) _ _ (c .loop-test .left) (c .before .loop .inv .3)
 

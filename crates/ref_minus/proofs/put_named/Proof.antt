@@ -1,37 +1,30 @@
-use Rattle.cut.specs.Refs.{refOf}
+use Rattle.cut_def.specs.Refs.{refOf}
 use Rattle.item.specs.Items.{fields}
-use Rattle.plan.specs.Outputs.{refNumbers}
-use Rattle.refs.proofs.Compared.{ref-of}
-use Rattle.lines.proofs.Loops.{laid-yes, laid-no}
+use Rattle.plan_def.specs.Outputs.{refNumbers}
+use Rattle.ref_def.proofs.Compared.{ref-of}
+use Rattle.plan_lines.proofs.Loops.{laid-yes, laid-no}
 use borrow.Author.Needs.{needs}
 use Rattle.ref_minus.proofs.put_named.Statement.{statement}
 use Rattle.ref_minus.proofs.put_named.Tie as tie
 
--- src/lib.rt:27:8
 is-among-requires : tie.Need-is-among-requires
 is-among-requires c κs = search needs
 
--- src/lib.rt:28:39
 extent-start-requires : tie.Need-extent-start-requires
 extent-start-requires c κs = search needs
 
--- src/lib.rt:28:60
 reference-requires : tie.Need-reference-requires
 reference-requires c κs = search needs
 
--- src/lib.rt:28:9
 put-ref-requires : tie.Need-put-ref-requires
 put-ref-requires c κs = search needs
 
--- src/lib.rt:28:9
 same-length : tie.Need-same-length
 same-length c = search needs
 
--- src/lib.rt:28:9
 returns : tie.Need-returns
 returns c = let f = fields (c .before .before .before .before .before .before .before .before .before .args .item) in laid-yes refNumbers 2 _ _ _ (refOf f) _ (c .before .before .before .before .before .before .before .is-among .ensures) _ _ _ (c .before .before .before .before .before .before .if1 .taken) (ref-of f _ _ (c .before .before .before .before .extent-start .ensures) (c .before .before .before .reference .ensures)) (c .before .before .put-ref .ensures)
 
--- src/lib.rt:23:1
 returns-2 : tie.Need-returns-2
 returns-2 c = laid-no refNumbers 2 _ _ _ (refOf (fields (c .before .before .before .args .item))) _ (c .before .is-among .ensures) (c .if1 .left)
 

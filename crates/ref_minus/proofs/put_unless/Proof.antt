@@ -3,19 +3,15 @@ use borrow.Author.Needs.{needs}
 use Rattle.ref_minus.proofs.put_unless.Statement.{statement}
 use Rattle.ref_minus.proofs.put_unless.Tie as tie
 
--- src/lib.rt:96:9
 returns : tie.Need-returns
 returns c = unless-met _ _ _ _ (c .if1 .taken)
 
--- src/lib.rt:98:5
 put-ref-requires : tie.Need-put-ref-requires
 put-ref-requires c κs = search needs
 
--- src/lib.rt:91:1
 same-length : tie.Need-same-length
 same-length c = search needs
 
--- src/lib.rt:91:1
 returns-2 : tie.Need-returns-2
 returns-2 c = unless-put _ _ _ _ _ _ (c .before .before .before .before .if1 .left) (c .before .before .put-ref .ensures)
 

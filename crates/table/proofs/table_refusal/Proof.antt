@@ -1,7 +1,8 @@
 -- The loop is a sieve over the rows that are left, with the end of the row before as its state.
 use mathlib.Core.Path.{_≡_, _∙_, refl, sym}
 use Prim.Native.Nat.{_-_, _≤_}
-use Rattle.records.specs.Stages.{unless, sieve}
+use Rattle.records.specs.Stages.{unless}
+use Rattle.records.specs.Raw.{sieve}
 use Rattle.records.proofs.Loops.{rest, sieve-turn, sieve-stop, sieve-done}
 use Rattle.table.specs.Rows.{rowOf, rows, tableKept}
 use Rattle.table.specs.Raw.{rowRefusal, rowEnd}

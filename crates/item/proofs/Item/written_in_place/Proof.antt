@@ -1,6 +1,6 @@
 use mathlib.Core.Path.{_≡_, _∙_, ap}
 use lib.ListN.{length}
-use Rattle.item.specs.Items.{Fields, fields, changed, writtenInPlace}
+use Rattle.item.specs.Items.{Fields, fields, withNumbers, writtenInPlace}
 use Rattle.item.proofs.Laws.{reads-self, with-generation}
 use borrow.Author.Needs.{needs}
 use Rattle.item.proofs.Item.written_in_place.Statement.{statement}
@@ -21,7 +21,7 @@ returns c =
     let k = c .before .of-kind .result in
     let h : length (k .«data») ≡ 53 = search (needs, c .before .of-kind .ok) in
     with-generation k _ (fields k) (s .args .generation) (reads-self k h) (s .fits .generation .fits) (c .with-num .ensures) .told
-    ∙ ap (λ (f : Fields). changed f (f .file) (f .key) (s .args .generation) (f .kind) (f .position) (f .length)) (c .before .of-kind .ensures)
+    ∙ ap (λ (f : Fields). withNumbers f (f .file) (f .key) (s .args .generation) (f .kind) (f .position) (f .length)) (c .before .of-kind .ensures)
     ∙ ap (λ (f : Fields). writtenInPlace f (f .key) (s .args .generation) (f .position) (f .length)) (c .before .before .windowed .ensures)
 
 pub written-in-place-spec : {M : Type 1} → statement M

@@ -1,5 +1,0 @@
-pub mod Rounding
-pub mod Preallocs
-pub mod Rewrites
-pub mod Changes
-pub mod Sweep

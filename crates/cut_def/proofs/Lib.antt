@@ -1,0 +1,9 @@
+pub mod Mappings
+pub mod Range
+pub mod Kept
+pub mod Counts
+pub mod Bytes
+pub mod Cases
+pub mod Applied
+pub mod Inserts
+pub mod Examples

@@ -1,0 +1,2 @@
+pub mod StoredState
+pub mod Called

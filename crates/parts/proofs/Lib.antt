@@ -1,4 +1,0 @@
-pub mod Steps
-pub mod Does
-pub mod Limits
-pub mod Examples

@@ -1,4 +1,0 @@
-pub mod Plans
-pub mod Places
-pub mod Outputs
-pub mod Reading

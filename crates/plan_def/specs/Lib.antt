@@ -1,0 +1,4 @@
+pub mod Plans
+pub mod Places
+pub mod Outputs
+pub mod ReadBack

@@ -1,6 +1,0 @@
-pub mod Compared
-pub mod Drops
-pub mod Lines
-pub mod Examples
-pub mod Among
-pub mod Helds

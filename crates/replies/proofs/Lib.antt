@@ -1,5 +1,0 @@
-pub mod Parts
-pub mod Operation
-pub mod Counts
-pub mod Replying
-pub mod Lines

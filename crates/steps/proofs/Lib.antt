@@ -1,5 +1,0 @@
-pub mod Bytes
-pub mod Files
-pub mod Plans
-pub mod Steps
-pub mod Runs

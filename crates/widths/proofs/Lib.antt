@@ -1,5 +1,0 @@
-pub mod Tests
-pub mod Changes
-pub mod Operations
-pub mod Read
-pub mod Bytes
