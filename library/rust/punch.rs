@@ -1,7 +1,7 @@
 //! A hole punched into the middle of one extent: the plan is printed, applied, and the file's new items counted. The caller would write
 //! the items, the sectors (none here) and the size.
 mod zagxuli;
-use zagxuli::{apply, punch, Answer, File, Lent, Outputs, Volume};
+use zagxuli::{apply, punch, with_stack, Answer, File, Lent, Outputs, Volume};
 
 /// A regular item that shows a whole extent.
 fn item(number: u64, key: u64, start: u64, length: u64) -> Vec<u8> {
@@ -59,7 +59,9 @@ fn main() {
 
     list.resize(70 * 8, 0); // room for more behind the one record and the one row
     table.resize(5 * 8, 0);
-    match apply(volume.sector, volume.generation + 1, file.number, &mut list, 1, &mut table, 1, &plan) {
+    // one row needs little stack; many need more than a spawned thread has by default
+    let applied = with_stack(|| apply(volume.sector, volume.generation + 1, file.number, &mut list, 1, &mut table, 1, &plan));
+    match applied {
         Ok((items, rows)) => {
             println!("applied: items {items}, rows {rows}");
             print_lines("row", &table[..rows * 5], 5);

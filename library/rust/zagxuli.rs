@@ -1,5 +1,10 @@
 //! Zagxuli for Rust: safe functions over the library's four exports. include/zagxuli.h says what each slice holds and what each number
-//! means. Slices are good for their lengths and what is written overlaps nothing, by Rust's own rules: nothing else is asked.
+//! means. Slices are good for their lengths and what is written overlaps nothing, by Rust's own rules.
+//!
+//! Stack is left to the caller. The header's table says what a call needs: 20,000 to 3,500,000 bytes, by the call and by how much it
+//! is lent. With too little the process ends by a signal; that is no `Refused` and no panic. A main thread usually has 8 MiB, which
+//! suffices. A spawned one has 2 MiB by default, which is too little for large lists: give it `STACK` bytes, or run the call by
+//! `with_stack`.
 #![allow(dead_code)]
 
 #[rustfmt::skip]
@@ -35,6 +40,7 @@ extern "C" {
     ) -> u8;
 }
 
+/// The volume: its sector, its bytes in total, its current generation, and the generation of its last snapshot.
 #[derive(Clone, Copy)]
 pub struct Volume {
     pub sector: u64,
@@ -119,6 +125,18 @@ impl Outputs {
             why => Answer::Refused(why),
         }
     }
+}
+
+/// Bytes of stack that suffice for every call: the largest of the header's table, and some for what is around the call.
+pub const STACK: usize = 4 << 20;
+
+/// Runs a call on a thread of its own, with `STACK` bytes of stack, and waits for it. The call may borrow. It panics where no thread
+/// can be had; a panic of the call goes on in the caller.
+pub fn with_stack<T: Send>(call: impl FnOnce() -> T + Send) -> T {
+    std::thread::scope(|scope| {
+        let thread = std::thread::Builder::new().stack_size(STACK).spawn_scoped(scope, call).expect("no thread");
+        thread.join().unwrap_or_else(|panic| std::panic::resume_unwind(panic))
+    })
 }
 
 /// A hole punched into `[offset, offset + length)`.
