@@ -1,4 +1,4 @@
--- Whether the rows of adds are sound, and clear of the rows that stay and of each other.
+-- For the code only: whether the rows of adds are sound, and clear of the rows that stay and of each other.
 use mathlib.Core.Bool.{Bool, true, _&&_, _||_, not}
 use mathlib.Core.List.{List, [], _∷_}
 use Prim.Native.Nat.{ℕ, _+_, _^_}

@@ -1,4 +1,4 @@
--- The lines of a plan, counted by row: how many references a row gains and loses, and whether it goes.
+-- For the code only: the lines of a plan, counted by row: how many references a row gains and loses, and whether it goes.
 use mathlib.Core.Bool.{Bool, true, cond, _&&_}
 use mathlib.Core.List.{List, [], _∷_}
 use mathlib.Core.Path.{_≡_}

@@ -1,4 +1,4 @@
--- A list and a table are changed in place, record by record.
+-- For the code only: a list and a table are changed in place, record by record.
 use mathlib.Core.List.{List}
 use mathlib.Core.Path.{_≡_}
 use Prim.Native.Nat.{ℕ, _*_, _/_}

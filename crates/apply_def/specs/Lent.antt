@@ -1,5 +1,5 @@
 -- What is lent to applying: the list and the table with a count each, and room behind them; and a plan as the outputs of an
--- operation hold it (plan/specs/Outputs), read back. Any bytes are a plan or are refused with 1.
+-- operation hold it (plan_def/specs/Outputs), read back. Any bytes are a plan or are refused with 1.
 use mathlib.Core.Bool.{Bool, false, _&&_, _||_}
 use mathlib.Core.List.{List, [], _∷_}
 use Prim.Native.Nat.{ℕ, _*_, _/_, _%_}

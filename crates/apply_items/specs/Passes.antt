@@ -1,4 +1,4 @@
--- The list changed in place, in two passes: front to back, records that no edit names move down; back to front, they and
+-- For the code only: the list changed in place, in two passes: front to back, records that no edit names move down; back to front, they and
 -- what is put move to their places. So no byte past the result is written.
 use mathlib.Core.Bool.{Bool, true, false, not}
 use mathlib.Core.List.{List, [], _∷_, _++_, map, flatMap}

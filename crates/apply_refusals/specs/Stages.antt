@@ -1,4 +1,5 @@
--- The refusals of applying as the private functions group them: 1 of what is lent, then 2 to 4, then those of the result.
+-- For the code only: the refusals of applying as the private functions group them: 1 of what is lent, then 2 to 4, then those of the
+-- result.
 use mathlib.Core.Bool.{_&&_}
 use mathlib.Core.List.{List, _++_}
 use mathlib.Core.Path.{_≡_}

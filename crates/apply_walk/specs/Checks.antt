@@ -1,4 +1,4 @@
--- The checks of edits and of the list after them, as the code makes them in one pass.
+-- For the code only: the checks of edits and of the list after them, as the code makes them in one pass.
 use mathlib.Core.Bool.{Bool, cond, _&&_}
 use mathlib.Core.List.{List}
 use Prim.Native.Nat.{ℕ, _%_}

@@ -1,4 +1,4 @@
--- The list after a plan, record by record, with nothing stored: the old list and the edits rise by key, so that it is a
+-- For the code only: the list after a plan, record by record, with nothing stored: the old list and the edits rise by key, so that it is a
 -- merge of both.
 use mathlib.Core.Bool.{Bool, true, false}
 use mathlib.Core.List.{List, [], _∷_, _++_}

@@ -1,4 +1,4 @@
--- The holes of a stretch of a file by one sweep along its items, which rise, with a range [lo, hi) taken out.
+-- For the code only: the holes of a stretch of a file by one sweep along its items, which rise, with a range [lo, hi) taken out.
 use mathlib.Core.List.{List, [], _∷_, _++_, flatMap}
 use Prim.Native.Nat.{ℕ, _+_, _-_, min, max}
 use lib.Dec.{ltb}

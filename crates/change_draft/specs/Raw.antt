@@ -1,4 +1,4 @@
--- What the structs and the enum of this crate say, in the terms of the definitions.
+-- For the code only: what the structs and the enum of this crate say, in the terms of the definitions.
 use mathlib.Core.Bool.{Bool, cond}
 use mathlib.Core.List.{List}
 use mathlib.Core.Path.{_≡_}

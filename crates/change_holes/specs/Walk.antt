@@ -1,4 +1,4 @@
--- What the structs and functions of this crate say, in the terms of the definitions.
+-- For the code only: what the structs and functions of this crate say, in the terms of the definitions.
 use mathlib.Core.Bool.{true}
 use mathlib.Core.List.{List, [], _∷_, _++_, flatMap}
 use mathlib.Core.Path.{_≡_}

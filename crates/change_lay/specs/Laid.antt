@@ -1,4 +1,4 @@
--- A plan laid over the outputs of a call, as far as each has room for it.
+-- For the code only: a plan laid over the outputs of a call, as far as each has room for it.
 use mathlib.Core.Bool.{true}
 use mathlib.Core.List.{List}
 use mathlib.Core.Path.{_≡_}

@@ -1,4 +1,4 @@
--- Extents wanted, of which the places' tests and the adds know where they are for and how long they are.
+-- For the code only: extents wanted, of which the places' tests and the adds know where they are for and how long they are.
 use Prim.Native.Nat.{ℕ}
 use Rattle.plan_def.specs.Plans.{Add}
 use Rattle.plan_def.specs.Places.{Wanted}

@@ -1,4 +1,4 @@
--- What the second half of a plan rests on, and its refusals, in the terms of the definitions.
+-- For the code only: what the second half of a plan rests on, and its refusals, in the terms of the definitions.
 use mathlib.Core.Bool.{true}
 use mathlib.Core.List.{List, map}
 use mathlib.Core.Path.{_≡_}

@@ -1,4 +1,4 @@
--- What a change's refusals are asked with.
+-- For the code only: what a change's refusals are asked with.
 use mathlib.Core.List.{List}
 use mathlib.Core.Path.{_≡_}
 use Prim.Native.Nat.{ℕ}

@@ -1,4 +1,4 @@
--- What the structs of this crate say, in the terms of the definitions.
+-- For the code only: what the structs of this crate say, in the terms of the definitions.
 use mathlib.Core.Bool.{cond, _&&_}
 use mathlib.Core.List.{List, [], _∷_}
 use mathlib.Core.Option.{Option, none, some}

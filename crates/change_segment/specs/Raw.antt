@@ -1,4 +1,4 @@
--- What the structs and functions of this crate say, in the terms of the definitions.
+-- For the code only: what the structs and functions of this crate say, in the terms of the definitions.
 use mathlib.Core.Bool.{Bool, true, false, cond}
 use mathlib.Core.List.{List}
 use mathlib.Core.Option.{none}

@@ -1,4 +1,4 @@
--- The two sectors of a change, front and back: what each has of the plan's lists, if it is there.
+-- For the code only: the two sectors of a change, front and back: what each has of the plan's lists, if it is there.
 use mathlib.Core.Bool.{Bool, true, cond, _&&_, not}
 use mathlib.Core.List.{List, [], _∷_, _++_, map}
 use mathlib.Core.Path.{_≡_}

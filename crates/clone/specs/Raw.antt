@@ -1,4 +1,4 @@
--- The stages of a clone as the private functions group them, and what they ask.
+-- For the code only: the stages of a clone as the private functions group them, and what they ask.
 use mathlib.Core.Path.{_≡_}
 use mathlib.Core.Bool.{Bool, true, not}
 use mathlib.Core.List.{List}

@@ -1,5 +1,5 @@
--- The copies of a source list, one behind the other, with nothing stored: from record k on, which is copied or is the end;
--- and the steps of a merge with them.
+-- For the code only: the copies of a source list, one behind the other, with nothing stored: from record k on, which is copied or is the
+-- end; and the steps of a merge with them.
 use mathlib.Core.Path.{_≡_}
 use mathlib.Core.Bool.{Bool, true, false, cond, _||_, not}
 use mathlib.Core.List.{List, [], _∷_}

@@ -1,4 +1,4 @@
--- The parts of a source record's refusals, as the code groups them, and what a copy asks of an item.
+-- For the code only: the parts of a source record's refusals, as the code groups them, and what a copy asks of an item.
 use mathlib.Core.Bool.{Bool, true, cond, _&&_, _||_, not}
 use mathlib.Core.List.{List, [], _∷_}
 use mathlib.Core.Path.{_≡_}

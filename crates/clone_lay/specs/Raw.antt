@@ -1,4 +1,4 @@
--- What laying a clone's plan asks, and the cut that it makes.
+-- For the code only: what laying a clone's plan asks, and the cut that it makes.
 use mathlib.Core.Path.{_≡_}
 use mathlib.Core.Bool.{Bool, true, _&&_}
 use mathlib.Core.List.{List}

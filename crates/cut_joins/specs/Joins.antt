@@ -1,4 +1,4 @@
--- Joins in a segment: what its items become.
+-- For the code only: joins in a segment: what its items become.
 use mathlib.Core.Path.{_≡_}
 use mathlib.Core.Bool.{cond}
 use mathlib.Core.List.{List, [], _∷_, _++_, map}

@@ -1,4 +1,4 @@
--- A segment: the few items of a file's list that a change makes anew, in a buffer beside the lent list.
+-- For the code only: a segment: the few items of a file's list that a change makes anew, in a buffer beside the lent list.
 use mathlib.Core.Path.{_≡_}
 use mathlib.Core.Bool.{Bool, true, cond, not}
 use mathlib.Core.List.{List, [], _∷_, _++_}

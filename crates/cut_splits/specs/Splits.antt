@@ -1,4 +1,4 @@
--- What one record adds: to the refusals of a cut's splits, to their shares, and to the byte count.
+-- For the code only: what one record adds: to the refusals of a cut's splits, to their shares, and to the byte count.
 use mathlib.Core.Bool.{Bool, cond, _&&_, not}
 use mathlib.Core.List.{List, [], _∷_}
 use Prim.Native.Nat.{ℕ}

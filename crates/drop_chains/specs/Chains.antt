@@ -1,4 +1,4 @@
--- A chain of items of a list, through an array of numbers: a number is an index and one more, and 0 is none.
+-- For the code only: a chain of items of a list, through an array of numbers: a number is an index and one more, and 0 is none.
 use mathlib.Core.Bool.{Bool, true, cond, _&&_, not}
 use mathlib.Core.List.{List, [], _∷_, map}
 use mathlib.Core.Path.{_≡_}

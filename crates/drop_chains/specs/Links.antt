@@ -1,4 +1,4 @@
--- Drops chained by row: a head for each row, and at each drop the number of the next of its row.
+-- For the code only: drops chained by row: a head for each row, and at each drop the number of the next of its row.
 use mathlib.Core.Bool.{Bool, true, _&&_}
 use mathlib.Core.List.{List}
 use mathlib.Core.Path.{_≡_}

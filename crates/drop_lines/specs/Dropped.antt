@@ -1,4 +1,4 @@
--- Which items of a list a cut drops (`drop_covered` of clone.rs; what is due for them stands in `ref_def`).
+-- For the code only: which items of a list a cut drops (`drop_covered` of clone.rs; what is due for them stands in `ref_def`).
 use mathlib.Core.Bool.{Bool, _&&_, not}
 use mathlib.Core.List.{List, [], _∷_}
 use Prim.Native.Nat.{ℕ}

@@ -1,4 +1,4 @@
--- What private functions compute, item by item and row by row.
+-- For the code only: what private functions compute, item by item and row by row.
 use mathlib.Core.Bool.{Bool, cond, _&&_}
 use mathlib.Core.List.{List, [], _∷_}
 use Prim.Native.Nat.{ℕ}

@@ -1,5 +1,5 @@
--- The edits between an old list and the new items, a segment with pieces among it: which new item is the next, and what a
--- step does.
+-- For the code only: the edits between an old list and the new items, a segment with pieces among it: which new item is the next, and
+-- what a step does.
 use mathlib.Core.Path.{_≡_}
 use mathlib.Core.Bool.{Bool, true, false}
 use mathlib.Core.List.{List, [], _∷_, map}

@@ -1,4 +1,4 @@
--- New preallocated extents as the items of a file: the output `adds`, read again.
+-- For the code only: new preallocated extents as the items of a file: the output `adds`, read again.
 use mathlib.Core.List.{List, map}
 use Prim.Native.Nat.{ℕ}
 use Rattle.item.specs.Items.{Fields, regularItem, ofKind}

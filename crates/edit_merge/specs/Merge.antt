@@ -1,4 +1,4 @@
--- The edits between an old list and new items, one a step: whether an old item goes before the next new one, and what a
+-- For the code only: the edits between an old list and new items, one a step: whether an old item goes before the next new one, and what a
 -- step does; and new items put in among others, the lowest key first.
 use mathlib.Core.Path.{_≡_}
 use mathlib.Core.Bool.{Bool, true, false, cond, _||_, not}

@@ -103,7 +103,7 @@ fn edit_buffer() -> [u8; 2658808]
 }
 
 // The answer to an input, with the buffers that it takes: 9,362 items, 7,281 extents, 6,553 places, and for outputs what
-// `enough` (crate ample) says.
+// `enough` (crate plan_bounds) says.
 fn answer(input: &[u8])
     requires { ⌜ length (now input) ≤ 65536 ⌝ }
 {

@@ -1,4 +1,4 @@
--- Buffers that hold all that an input can say.
+-- For the code only: buffers that hold all that an input can say.
 use mathlib.Core.List.{List}
 use Prim.Native.Nat.{ℕ, _*_, _≤_}
 use lib.ListN.{length}

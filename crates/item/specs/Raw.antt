@@ -1,4 +1,4 @@
--- What the private functions do to an item's bytes. They unfold everywhere, so that their callers are proved unasked.
+-- For the code only: what the private functions do to an item's bytes. They unfold everywhere, so that their callers are proved unasked.
 use mathlib.Core.Path.{_≡_}
 use mathlib.Core.List.{List}
 use Prim.Native.Nat.{ℕ, _+_}

@@ -1,4 +1,4 @@
--- Extents that share no byte, each a pair of numbers: its start, and its length as the offset.
+-- For the code only: extents that share no byte, each a pair of numbers: its start, and its length as the offset.
 use mathlib.Core.Bool.{Bool}
 use mathlib.Core.List.{List}
 use Prim.Native.Nat.{ℕ, _+_}

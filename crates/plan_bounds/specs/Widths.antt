@@ -1,4 +1,4 @@
--- Numbers that fit the widths of a record, and edits of them.
+-- For the code only: numbers that fit the widths of a record, and edits of them.
 use mathlib.Core.Bool.{Bool, _&&_}
 use Prim.Native.Nat.{_^_}
 use lib.Dec.{ltb}

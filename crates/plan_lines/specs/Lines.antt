@@ -1,4 +1,4 @@
--- Lines of one length, laid one behind the other over an output.
+-- For the code only: lines of one length, laid one behind the other over an output.
 use mathlib.Core.Bool.{cond}
 use mathlib.Core.List.{List, [], _∷_}
 use mathlib.Core.Path.{_≡_}

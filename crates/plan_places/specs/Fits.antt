@@ -1,4 +1,4 @@
--- The test of room by the numbers that the code has.
+-- For the code only: the test of room by the numbers that the code has.
 use mathlib.Core.Bool.{Bool, _&&_}
 use Prim.Native.Nat.{_/_}
 use lib.Dec.{leb}

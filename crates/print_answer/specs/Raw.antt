@@ -1,4 +1,4 @@
--- The parts of a plan's lines that the private functions look into.
+-- For the code only: the parts of a plan's lines that the private functions look into.
 use mathlib.Core.List.{List, _++_, map}
 use Prim.Native.Nat.{ℕ}
 use Rattle.plan_def.specs.Plans.{Plan, Add, Write}

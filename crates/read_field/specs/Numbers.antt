@@ -1,4 +1,5 @@
--- A number read at a place of a text. Where there is none, the reader stands at the text's end: nothing can be read there.
+-- For the code only: a number read at a place of a text. Where there is none, the reader stands at the text's end: nothing can be read
+-- there.
 use mathlib.Core.Bool.{cond}
 use mathlib.Core.List.{List}
 use mathlib.Core.Path.{_≡_}

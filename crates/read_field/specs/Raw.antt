@@ -1,4 +1,4 @@
--- What the code does with a line on the way, step by step.
+-- For the code only: what the code does with a line on the way, step by step.
 use mathlib.Core.Bool.{cond}
 use mathlib.Core.List.{List, [], _∷_}
 use Prim.Native.Nat.{ℕ, _+_}

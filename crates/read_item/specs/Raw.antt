@@ -1,4 +1,4 @@
--- An item line's bytes, by the groups in which they are written.
+-- For the code only: an item line's bytes, by the groups in which they are written.
 use mathlib.Core.List.{List, _++_}
 use Prim.Native.Nat.{ℕ}
 use Rattle.endian.specs.Le.{enc}

@@ -1,4 +1,4 @@
--- What the code does with a whole line.
+-- For the code only: what the code does with a whole line.
 use mathlib.Core.Bool.{true, cond, _&&_}
 use mathlib.Core.List.{List, []}
 use mathlib.Core.Path.{_≡_}

@@ -1,4 +1,4 @@
--- How much was read, at most. (No line is counted twice, so that a count never leaves its type.)
+-- For the code only: how much was read, at most. (No line is counted twice, so that a count never leaves its type.)
 use Prim.Native.Nat.{ℕ, _≤_}
 use Rattle.read_order.specs.declared.Read.{Read}
 

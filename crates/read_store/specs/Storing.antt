@@ -1,4 +1,4 @@
--- What a line of the input leaves in the buffers that hold items, shared bytes, rows and places.
+-- For the code only: what a line of the input leaves in the buffers that hold items, shared bytes, rows and places.
 use mathlib.Core.List.{List, [], _∷_, _++_}
 use mathlib.Core.Path.{_≡_}
 use Prim.Native.Nat.{ℕ}

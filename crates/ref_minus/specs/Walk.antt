@@ -1,4 +1,4 @@
--- Two lists of references in order, walked together; and those of a list's items.
+-- For the code only: two lists of references in order, walked together; and those of a list's items.
 use mathlib.Core.Bool.{Bool, false, cond}
 use mathlib.Core.List.{List, [], _∷_, map}
 use Prim.Native.Nat.{ℕ}

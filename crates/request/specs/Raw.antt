@@ -1,4 +1,4 @@
--- The stages as the private functions group them.
+-- For the code only: the stages as the private functions group them.
 use mathlib.Core.Bool.{Bool, _||_, not}
 use mathlib.Core.List.{List}
 use Prim.Native.Nat.{ℕ}
