@@ -11,7 +11,7 @@ use Rattle.request.specs.declared.File.{File}
 use Rattle.cut_def.specs.Mappings.{mapping}
 use Rattle.cut_def.specs.Pieces.{itemsOf, cutPieces}
 use Rattle.cut_def.proofs.Mappings.{cut-inside}
-use Rattle.cut_def.proofs.Kept.{insertAll-shows}
+use Rattle.cut_def.proofs.Shown.{insertAll-shows}
 use Rattle.plan_def.specs.Plans.{Plan}
 use Rattle.clone_items.proofs.Items.{clones-apart}
 use Rattle.clone_items.proofs.Mappings.{copies-show}

@@ -1,5 +1,5 @@
 -- A cut, an insertion and a join keep a list well kept, and its sectors whole. Assumes nothing.
-use mathlib.Core.Path.{_≡_, refl, _∙_}
+use mathlib.Core.Path.{_≡_, refl}
 use mathlib.Core.Bool.{Bool, true, false, cond, _&&_, _||_, not}
 use mathlib.Core.List.{List, [], _∷_, _++_, flatMap}
 use mathlib.Core.Logic.{_⊎_, inl, inr, ⊎-elim}
@@ -11,20 +11,20 @@ use Rattle.records.specs.Stages.{every, pairs}
 use Rattle.records.proofs.Tests.{both, both-left, both-right, either, either-left, either-right, implied, imply, every-map, every-both}
 use Rattle.records.proofs.Lists.{every-true}
 use Rattle.records.proofs.Wholes.{add-whole, sub-whole}
-use Rattle.item.specs.Items.{Fields, ranged, hole, end, windowed, joined}
+use Rattle.item.specs.Items.{Fields, ranged, end, windowed, joined}
 use Rattle.lists.specs.Lists.{itemSound, rangeSound, rises, apart, wholeSectors}
 use Rattle.lists.proofs.Order.{Ranged, item-ranged}
 use Rattle.lists.proofs.Laws.{Kept, kept-head, kept-tail, item-file, whole-facts}
-use mathlib.Core.Option.{none, some}
+use mathlib.Core.Option.{some}
 use Rattle.cut_def.specs.Cuts.{front, back}
-use Rattle.cut_def.specs.Mappings.{holds, mappingIn, mapping}
+use Rattle.cut_def.specs.Mappings.{holds}
 use Rattle.cut_def.specs.Pieces.{Piece, built, itemsOf, cutPieces, insert, insertAll}
-use Rattle.cut_def.proofs.Mappings.{Left, stays, taken, fronted, backed, parted, left-cases, items-cut, Joint, joined-position, fits, Joins, unjoined, here, there, then, joins-every, insert-misses, insertAll-misses, insert-hits}
+use Rattle.cut_def.proofs.Mappings.{Left, stays, taken, fronted, backed, parted, left-cases, items-cut, Joint, joined-position, fits, Joins, unjoined, here, there, then, joins-every}
 
 -- ---- two items apart
 
 -- of two that lie apart one ends at most where the other starts
-apart-facts : (f g : Fields) → apart f g ≡ true → ranged f ≡ true → ranged g ≡ true → (end f ≤ g .key) ⊎ (end g ≤ f .key)
+pub apart-facts : (f g : Fields) → apart f g ≡ true → ranged f ≡ true → ranged g ≡ true → (end f ≤ g .key) ⊎ (end g ≤ f .key)
 apart-facts f g h p q =
     ⊎-elim (λ x. inl (leb-true (end f) (g .key) x)) (λ x. inr (leb-true (end g) (f .key) x))
     (either (leb (end f) (g .key)) (leb (end g) (f .key))
@@ -386,36 +386,3 @@ whole-joins sector n j e = joins-every n (wholeSectors sector) go j e
         (λ r. let a = whole-facts sector f p r in
         let b = whole-facts sector g q (rw (i .second .kind) refl) in
         (a .0, add-whole sector (f .length) (g .length) (a .1) (b .1)))
-
--- ---- what inserted items show
-
--- of two that lie apart no more than one holds an offset
-apart-holds : (o : ℕ) (f g : Fields) → apart f g ≡ true → holds o f ≡ true → holds o g ≡ false
-apart-holds o f g a h = go (holds o g) refl
-  where
-    ends : (x : Fields) → holds o x ≡ true → (ranged x ≡ true) × (x .key ≤ o) × (o < end x)
-    ends x e =
-        let n = both-left (ranged x) (not (hole x)) (both-left (ranged x && not (hole x)) (leb (x .key) o && ltb o (end x)) e) in
-        let r = both-right (ranged x && not (hole x)) (leb (x .key) o && ltb o (end x)) e in
-        (n, leb-true (x .key) o (both-left (leb (x .key) o) (ltb o (end x)) r), ltb-true o (end x) (both-right (leb (x .key) o) (ltb o (end x)) r))
-
-    go : (b : Bool) → holds o g ≡ b → b ≡ false
-    go false e = refl
-    go true e =
-        let x = ends f h in
-        let y = ends g e in
-        absurd (⊎-elim (λ p. omega (arith, x .2, y .1)) (λ p. omega (arith, x .1, y .2)) (apart-facts f g a (x .0) (y .0)))
-
--- where nothing was shown, items that lie apart show what they show by themselves
-pub insertAll-shows : (o : ℕ) (xs : List Fields) (ps : List Piece) → pairs apart xs ≡ true → mapping o (itemsOf ps) ≡ none → mapping o (itemsOf (insertAll xs ps)) ≡ mapping o xs
-unfolding insertAll mapping pairs
-insertAll-shows o [] ps a n = n
-insertAll-shows o (x ∷ xs) ps a n = go (holds o x) refl (insertAll-shows o xs (insert x ps) (both-right (every (apart x) xs) (pairs apart xs) a))
-  where
-    go : (b : Bool) → holds o x ≡ b → (mapping o (itemsOf (insert x ps)) ≡ none → mapping o (itemsOf (insertAll xs (insert x ps))) ≡ mapping o xs)
-        → mapping o (itemsOf (insertAll xs (insert x ps))) ≡ cond b (some (mappingIn o x)) (mapping o xs)
-    go true e ih =
-        insertAll-misses o xs (insert x ps)
-        (every-map (apart x) (λ y. not (holds o y)) (λ y p. rw (apart-holds o x y p e) refl) xs (both-left (every (apart x) xs) (pairs apart xs) a))
-        ∙ insert-hits o x ps e n
-    go false e ih = ih (insert-misses o x ps e ∙ n)

@@ -1,6 +1,7 @@
 pub mod Mappings
 pub mod Range
 pub mod Kept
+pub mod Shown
 pub mod Counts
 pub mod Bytes
 pub mod Cases

@@ -1,6 +1,11 @@
 // One turn of the history: a call, applying, and every claim on the bytes that are there then.
+use crate::answers::count_answer;
+use crate::answers::is_nothing;
+use crate::answers::is_plan;
+use crate::answers::numbers_of;
 use crate::claims;
 use crate::runs;
+use crate::totals;
 use apply::Applied;
 use apply::Sizes;
 use records::either;
@@ -16,7 +21,6 @@ use test_history_state::numbers::byte;
 use test_history_state::numbers::copy;
 use test_history_state::numbers::copy_bytes;
 use test_history_state::numbers::get;
-use test_history_state::numbers::index;
 use test_history_state::numbers::lead;
 use test_history_state::numbers::put;
 use test_history_state::numbers::put_byte;
@@ -105,7 +109,7 @@ fn table_claims(
     if trial {
         return 0;
     }
-    claims::totals(
+    totals::totals(
         s,
         lists,
         state::table_of(table, s),
@@ -189,59 +193,6 @@ fn planned(
 }
 
 // ---- a turn
-
-fn no_numbers() -> Numbers {
-    Numbers {
-        edits: 0,
-        shares: 0,
-        unrefs: 0,
-        releases: 0,
-        adds: 0,
-        writes: 0,
-        size: 0,
-        bytes: 0,
-        prealloc: false,
-    }
-}
-
-fn numbers_of(answer: Answer) -> Numbers {
-    match answer {
-        Answer::Planned(n) => n,
-        Answer::Nothing => no_numbers(),
-        Answer::Refused(_) => no_numbers(),
-    }
-}
-
-fn is_plan(answer: Answer) -> bool {
-    match answer {
-        Answer::Planned(_) => true,
-        Answer::Nothing => false,
-        Answer::Refused(_) => false,
-    }
-}
-
-fn is_nothing(answer: Answer) -> bool {
-    match answer {
-        Answer::Planned(_) => false,
-        Answer::Nothing => true,
-        Answer::Refused(_) => false,
-    }
-}
-
-// An answer that is no plan: counted, a refusal by its number.
-fn count_answer(s: &mut [u64], answer: Answer) {
-    let why = request::number_of(answer) as usize;
-    bump(s, index(state::BY_NUMBER, why), 1);
-    bump(
-        s,
-        if is_nothing(answer) {
-            state::NOTHINGS
-        } else {
-            state::REFUSALS
-        },
-        1,
-    );
-}
 
 // Claim 13.
 fn nothing_claim(call: Call, answer: Answer, old: &[u64], was: &[u8]) -> u8 {

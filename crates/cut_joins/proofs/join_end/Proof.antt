@@ -1,4 +1,5 @@
-use Rattle.cut_joins.proofs.Joining.{end-none, end-not, end-yes, joined-fits, bounded-of}
+use Rattle.cut_joins.proofs.Joining.{end-none, end-not, end-yes}
+use Rattle.cut_joins.proofs.Pairs.{joined-fits, bounded-of}
 use Rattle.item.proofs.Laws.{items-length}
 use Rattle.item.specs.Items.{Fields, fields, items}
 use denote.Ref.{now}

@@ -1,4 +1,5 @@
-use Rattle.cut_joins.proofs.Joining.{start-none, start-not, start-yes, joined-fits, bounded-at}
+use Rattle.cut_joins.proofs.Joining.{start-none, start-not, start-yes}
+use Rattle.cut_joins.proofs.Pairs.{joined-fits, bounded-at}
 use Rattle.item.specs.Items.{Fields, fields, items}
 use denote.Ref.{now}
 use lib.ListN.{set}

@@ -1,4 +1,4 @@
-use Rattle.cut_joins.proofs.Joining.{within-not, within-yes, joined-fits, bounded-at}
+use Rattle.cut_joins.proofs.Pairs.{within-not, within-yes, joined-fits, bounded-at}
 use Rattle.cut_segment.proofs.Buffer.{items-same}
 use Rattle.item.specs.Items.{Fields, fields, items}
 use denote.Ref.{now}

@@ -2,8 +2,8 @@ use lib.ListN.{length}
 use mathlib.Core.Path.{_≡_}
 use Prim.Native.Nat.{_-_}
 use borrow.Author.Needs.{needs}
-use Rattle.test_history.proofs.claims.name_items.Statement.{statement}
-use Rattle.test_history.proofs.claims.name_items.Tie as tie
+use Rattle.test_history.proofs.totals.name_items.Statement.{statement}
+use Rattle.test_history.proofs.totals.name_items.Tie as tie
 
 abbrev Inv-loop : tie.InvT-loop
 Inv-loop names₀ at list n i₀ names i = length names ≡ length names₀

@@ -2,8 +2,8 @@ use lib.ListN.{length}
 use mathlib.Core.Path.{_≡_}
 use Prim.Native.Nat.{_-_}
 use borrow.Author.Needs.{needs}
-use Rattle.test_history.proofs.claims.name_all.Statement.{statement}
-use Rattle.test_history.proofs.claims.name_all.Tie as tie
+use Rattle.test_history.proofs.totals.name_all.Statement.{statement}
+use Rattle.test_history.proofs.totals.name_all.Tie as tie
 
 abbrev Inv-loop : tie.InvT-loop
 Inv-loop names₀ s lists i₀ names i = length names ≡ length names₀

@@ -1,7 +1,7 @@
 use Prim.Native.Nat.{_-_}
 use borrow.Author.Needs.{needs}
-use Rattle.test_history.proofs.claims.rows_true.Statement.{statement}
-use Rattle.test_history.proofs.claims.rows_true.Tie as tie
+use Rattle.test_history.proofs.totals.rows_true.Statement.{statement}
+use Rattle.test_history.proofs.totals.rows_true.Tie as tie
 
 abbrev Inv-loop : tie.InvT-loop
 Inv-loop names rows n sum₀ i₀ sum i = Unit {0}
