@@ -47,8 +47,8 @@ fn apply_counted(
     requires { ReadyFor target list.old table.old edits.now
         × (target.rows ≤ length gained.now) × (target.rows ≤ length lost.now) × (target.rows ≤ length gone.now)
         × ((p : Plan) × Stands edits.now adds.now (rows_in target.rows table.old) gained.now lost.now gone.now missing p) }
-    ensures { (p : Plan) → Stands (old edits) (old adds) (rows_in target.rows (old table)) (old gained) (old lost) (old gone) missing p
-        → MetApplying (apply_to target (old list) (old table) p) result list table }
+    ensures { (p : Plan) → Stands edits.now adds.now (rows_in target.rows table.old) gained.now lost.now gone.now missing p
+        → MetApplying (apply_to target list.old table.old p) result list table }
 {
     let end = target.items * item::RECORD;
     let stop = target.rows * 5;
@@ -99,7 +99,7 @@ fn apply_zeroed(
     gone: &mut [u8],
 ) -> Applied
     requires { ReadyFor target list.old table.old edits.now × Zeros target.rows gained.old lost.old gone.old }
-    ensures { MetApplying (apply_to target (old list) (old table) (plan_lent (parts_of (old edits) (old shares) (old unrefs) (old releases) (old adds)))) result list table }
+    ensures { MetApplying (apply_to target list.old table.old (plan_lent (parts_of edits.now shares.now unrefs.now releases.now adds.now))) result list table }
 {
     let stop = target.rows * 5;
     let missing = apply_counts::count_lines(
@@ -130,7 +130,7 @@ fn apply_to_few(
     adds: &[u64],
 ) -> Applied
     requires { ReadyFor target list.old table.old edits.now × (target.rows ≤ 64) }
-    ensures { MetApplying (apply_to target (old list) (old table) (plan_lent (parts_of (old edits) (old shares) (old unrefs) (old releases) (old adds)))) result list table }
+    ensures { MetApplying (apply_to target list.old table.old (plan_lent (parts_of edits.now shares.now unrefs.now releases.now adds.now))) result list table }
 {
     let mut gained = [0u64; 64];
     let mut lost = [0u64; 64];
@@ -162,7 +162,7 @@ fn apply_to_some(
     adds: &[u64],
 ) -> Applied
     requires { ReadyFor target list.old table.old edits.now × (target.rows ≤ 1024) }
-    ensures { MetApplying (apply_to target (old list) (old table) (plan_lent (parts_of (old edits) (old shares) (old unrefs) (old releases) (old adds)))) result list table }
+    ensures { MetApplying (apply_to target list.old table.old (plan_lent (parts_of edits.now shares.now unrefs.now releases.now adds.now))) result list table }
 {
     let mut gained = [0u64; 1024];
     let mut lost = [0u64; 1024];
@@ -195,7 +195,7 @@ fn apply_to_many(
     adds: &[u64],
 ) -> Applied
     requires { ReadyFor target list.old table.old edits.now }
-    ensures { MetApplying (apply_to target (old list) (old table) (plan_lent (parts_of (old edits) (old shares) (old unrefs) (old releases) (old adds)))) result list table }
+    ensures { MetApplying (apply_to target list.old table.old (plan_lent (parts_of edits.now shares.now unrefs.now releases.now adds.now))) result list table }
 {
     let mut gained = [0u64; 65536];
     let mut lost = [0u64; 65536];
@@ -231,7 +231,7 @@ fn apply_ready(
     adds: &[u64],
 ) -> Applied
     requires { ReadyFor target list.old table.old edits.now }
-    ensures { MetApplying (apply_to target (old list) (old table) (plan_lent (parts_of (old edits) (old shares) (old unrefs) (old releases) (old adds)))) result list table }
+    ensures { MetApplying (apply_to target list.old table.old (plan_lent (parts_of edits.now shares.now unrefs.now releases.now adds.now))) result list table }
 {
     if target.rows <= 64 {
         return apply_to_few(target, list, table, edits, shares, unrefs, releases, adds);
@@ -258,7 +258,7 @@ pub fn apply_plan(
     releases: &[u64],
     adds: &[u64],
 ) -> Applied
-    ensures { MetApplying (apply_lent sector number generation items rows (old list) (old table) (parts_of (old edits) (old shares) (old unrefs) (old releases) (old adds))) result list table }
+    ensures { MetApplying (apply_lent sector number generation items rows list.old table.old (parts_of edits.now shares.now unrefs.now releases.now adds.now)) result list table }
 {
     let size = apply_refusals::size_refusal(
         list, items, table, rows, edits, shares, unrefs, releases, adds,

@@ -14,7 +14,7 @@ use records::{both, either, first, refusal, sum_fits, unless};
 // Whether a new extent shares no byte with a row that stays, row by row.
 fn is_clear_by_row(table: &[u64], gone: &[u8], start: u64, len: u64) -> bool
     requires { length (rows table.now) ≤ length gone.now }
-    ensures { result ≡ clear_from (old gone) 0 start len (rows (old table)) }
+    ensures { result ≡ clear_from gone.now 0 start len (rows table.now) }
 {
     for k in 0..table.len() / 5 {
         let row = table::row_at(table, k);
@@ -29,7 +29,7 @@ fn is_clear_by_row(table: &[u64], gone: &[u8], start: u64, len: u64) -> bool
 // The same: an extent that is clear of all rows, as a search by halves says, is clear of those that stay.
 fn is_clear_of_rows(table: &[u64], gone: &[u8], start: u64, len: u64) -> bool
     requires { (table_kept (rows table.now) ≡ true) × (length (rows table.now) ≤ length gone.now) }
-    ensures { result ≡ clear_from (old gone) 0 start len (rows (old table)) }
+    ensures { result ≡ clear_from gone.now 0 start len (rows table.now) }
 {
     if plan_places::place_clear(table, start, len) {
         return true;
@@ -40,7 +40,7 @@ fn is_clear_of_rows(table: &[u64], gone: &[u8], start: u64, len: u64) -> bool
 // Whether add k is sound and clear of the rows that stay.
 fn add_fits(table: &[u64], gone: &[u8], adds: &[u64], k: usize) -> bool
     requires { (table_kept (rows table.now) ≡ true) × (length (rows table.now) ≤ length gone.now) × (k < length adds.now / 3) }
-    ensures { result ≡ add_alone (old gone) (rows (old table)) (add_in (drop (k * 3) (old adds))) }
+    ensures { result ≡ add_alone gone.now (rows table.now) (add_in (drop (k * 3) adds.now)) }
 {
     let at = k * 3;
     let start = adds[at];
@@ -54,7 +54,7 @@ fn add_fits(table: &[u64], gone: &[u8], adds: &[u64], k: usize) -> bool
 // Refusal 3 of each add by itself.
 fn each_refusal(table: &[u64], gone: &[u8], adds: &[u64]) -> u8
     requires { (table_kept (rows table.now) ≡ true) × (length (rows table.now) ≤ length gone.now) }
-    ensures { result ≡ unless (every (add_alone (old gone) (rows (old table))) (adds_in (old adds))) 3 }
+    ensures { result ≡ unless (every (add_alone gone.now (rows table.now)) (adds_in adds.now)) 3 }
 {
     for k in 0..adds.len() / 3 {
         if !add_fits(table, gone, adds, k) {
@@ -67,7 +67,7 @@ fn each_refusal(table: &[u64], gone: &[u8], adds: &[u64]) -> u8
 // Whether a new extent shares no byte with an add, from number `from` on.
 fn is_clear_of_adds(adds: &[u64], from: usize, start: u64, len: u64) -> bool
     requires { from ≤ length adds.now / 3 }
-    ensures { result ≡ every (clear_of start len) (drop from (adds_in (old adds))) }
+    ensures { result ≡ every (clear_of start len) (drop from (adds_in adds.now)) }
 {
     for j in from..adds.len() / 3 {
         let at = j * 3;
@@ -80,7 +80,7 @@ fn is_clear_of_adds(adds: &[u64], from: usize, start: u64, len: u64) -> bool
 
 // Whether every two adds share no byte, by pairs.
 fn plain_apart(adds: &[u64]) -> bool
-    ensures { result ≡ pairs adds_apart (adds_in (old adds)) }
+    ensures { result ≡ pairs adds_apart (adds_in adds.now) }
 {
     for k in 0..adds.len() / 3 {
         let at = k * 3;
@@ -93,7 +93,7 @@ fn plain_apart(adds: &[u64]) -> bool
 
 // The adds' extents, each as a pair of its start and length.
 fn put_extents(adds: &[u64], out: &mut [u64]) -> usize
-    ensures { Laid extent_numbers 2 0 (adds_in (old adds)) (old out) result (new out) }
+    ensures { Laid extent_numbers 2 0 (adds_in adds.now) out.old result out.new }
 {
     let mut m = 0;
     for k in 0..adds.len() / 3 {
@@ -106,7 +106,7 @@ fn put_extents(adds: &[u64], out: &mut [u64]) -> usize
 // Whether every two adds share no byte, sorted in lent buffers.
 fn sorted_apart(adds: &[u64], xs: &mut [u64], spare: &mut [u64]) -> bool
     requires { (length adds.now / 3 * 2 ≤ length xs.old) × (length xs.old ≤ length spare.old) }
-    ensures { result ≡ pairs adds_apart (adds_in (old adds)) }
+    ensures { result ≡ pairs adds_apart (adds_in adds.now) }
 {
     let n = put_extents(adds, xs);
     plan_apart::are_apart(xs, n, spare)
@@ -115,7 +115,7 @@ fn sorted_apart(adds: &[u64], xs: &mut [u64], spare: &mut [u64]) -> bool
 // The same with buffers of its own, for up to 1,024 adds: small ones take less time to zero.
 fn few_apart(adds: &[u64]) -> bool
     requires { length adds.now / 3 ≤ 1024 }
-    ensures { result ≡ pairs adds_apart (adds_in (old adds)) }
+    ensures { result ≡ pairs adds_apart (adds_in adds.now) }
 {
     let mut xs = [0u64; 2048];
     let mut spare = [0u64; 2048];
@@ -125,7 +125,7 @@ fn few_apart(adds: &[u64]) -> bool
 // For up to 8,192.
 fn several_apart(adds: &[u64]) -> bool
     requires { length adds.now / 3 ≤ 8192 }
-    ensures { result ≡ pairs adds_apart (adds_in (old adds)) }
+    ensures { result ≡ pairs adds_apart (adds_in adds.now) }
 {
     let mut xs = [0u64; 16384];
     let mut spare = [0u64; 16384];
@@ -135,7 +135,7 @@ fn several_apart(adds: &[u64]) -> bool
 // For up to 65,536.
 fn many_apart(adds: &[u64]) -> bool
     requires { length adds.now / 3 ≤ 65536 }
-    ensures { result ≡ pairs adds_apart (adds_in (old adds)) }
+    ensures { result ≡ pairs adds_apart (adds_in adds.now) }
 {
     let mut xs = [0u64; 131072];
     let mut spare = [0u64; 131072];
@@ -145,7 +145,7 @@ fn many_apart(adds: &[u64]) -> bool
 // Whether every two adds share no byte. Few are compared by pairs; so are very many, if the first half passes. As the function
 // calls itself, the compiler leaves the buffers to the functions that have them: within a caller they would cost every call.
 fn are_adds_apart(adds: &[u64]) -> bool
-    ensures { result ≡ pairs adds_apart (adds_in (old adds)) }
+    ensures { result ≡ pairs adds_apart (adds_in adds.now) }
 {
     let n = adds.len() / 3;
     if n <= 16 {
@@ -169,7 +169,7 @@ fn are_adds_apart(adds: &[u64]) -> bool
 // Refusal 3 of the adds, of which `gone` says what rows they need not be clear of.
 pub fn adds_refusal(table: &[u64], gone: &[u8], adds: &[u64]) -> u8
     requires { (table_kept (rows table.now) ≡ true) × (length (rows table.now) ≤ length gone.now) }
-    ensures { result ≡ unless (adds_fit (old gone) (rows (old table)) (adds_in (old adds))) 3 }
+    ensures { result ≡ unless (adds_fit gone.now (rows table.now) (adds_in adds.now)) 3 }
 {
     first(
         each_refusal(table, gone, adds),

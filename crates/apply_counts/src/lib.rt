@@ -15,7 +15,7 @@ use table::Found;
 // The count of the row that starts at `start`, one higher; 14 without a row.
 fn tally_line(table: &[u64], start: u64, counts: &mut [u64]) -> u8
     requires { (table_kept (rows table.now) ≡ true) × (length (rows table.now) ≤ length counts.old) × ((y : ℕ) → y < length (rows table.now) → get_or counts.old y 0 + 1 < 2 ^ 64) }
-    ensures { Tallied (rows (old table)) start (old counts) result (new counts) }
+    ensures { Tallied (rows table.now) start counts.old result counts.new }
 {
     let Found::At(k, _) = table::find_row(table, start) else {
         return refusal::NO_ROW;
@@ -27,7 +27,7 @@ fn tally_line(table: &[u64], start: u64, counts: &mut [u64]) -> u8
 // The counts of the rows that lines name; 14 if one has no row.
 fn tally(table: &[u64], lines: &[u64], counts: &mut [u64]) -> u8
     requires { (table_kept (rows table.now) ≡ true) × (length (rows table.now) ≤ length counts.old) × ((y : ℕ) → y < length (rows table.now) → get_or counts.old y 0 + length lines.now < 2 ^ 64) }
-    ensures { AllTallied (rows (old table)) (refs_in (old lines)) (old counts) result (new counts) }
+    ensures { AllTallied (rows table.now) (refs_in lines.now) counts.old result counts.new }
 {
     let mut why = 0;
     for i in 0..lines.len() / 2 {
@@ -39,7 +39,7 @@ fn tally(table: &[u64], lines: &[u64], counts: &mut [u64]) -> u8
 // A mark for the row that starts at `start`, if there is one.
 fn mark_line(table: &[u64], start: u64, marks: &mut [u8])
     requires { (table_kept (rows table.now) ≡ true) × (length (rows table.now) ≤ length marks.old) }
-    ensures { Marked (rows (old table)) start (old marks) (new marks) }
+    ensures { Marked (rows table.now) start marks.old marks.new }
 {
     let Found::At(k, _) = table::find_row(table, start) else {
         return;
@@ -50,7 +50,7 @@ fn mark_line(table: &[u64], start: u64, marks: &mut [u8])
 // Marks for the rows that lines name.
 fn mark(table: &[u64], lines: &[u64], marks: &mut [u8])
     requires { (table_kept (rows table.now) ≡ true) × (length (rows table.now) ≤ length marks.old) }
-    ensures { AllMarked (rows (old table)) (refs_in (old lines)) (old marks) (new marks) }
+    ensures { AllMarked (rows table.now) (refs_in lines.now) marks.old marks.new }
 {
     for i in 0..lines.len() / 2 {
         mark_line(table, lines[i * 2], marks);
@@ -70,8 +70,8 @@ pub fn count_lines(
     requires { (table_kept (rows table.now) ≡ true)
         × (length (rows table.now) ≤ length gained.old) × (length (rows table.now) ≤ length lost.old) × (length (rows table.now) ≤ length gone.old)
         × ((y : ℕ) → y < length (rows table.now) → (get_or gained.old y 0 ≡ 0) × (get_or lost.old y 0 ≡ 0) × (get_or gone.old y 0 ≡ 0)) }
-    ensures { (result ≡ stage (row_missing (rows (old table))) (refs_in (old shares) ++ (refs_in (old unrefs) ++ refs_in (old releases))))
-        × Counted (refs_in (old shares)) (refs_in (old unrefs)) (refs_in (old releases)) (rows (old table)) (new gained) (new lost) (new gone) }
+    ensures { (result ≡ stage (row_missing (rows table.now)) (refs_in shares.now ++ (refs_in unrefs.now ++ refs_in releases.now)))
+        × Counted (refs_in shares.now) (refs_in unrefs.now) (refs_in releases.now) (rows table.now) gained.new lost.new gone.new }
 {
     mark(table, releases, gone);
     let a = tally(table, shares, gained);
@@ -82,7 +82,7 @@ pub fn count_lines(
 
 // How many of these are 0: of marks, how many rows stay.
 pub fn count_zeros(marks: &[u8]) -> usize
-    ensures { result ≡ count (λ (b : ℕ). eqb b 0) (old marks) }
+    ensures { result ≡ count (λ (b : ℕ). eqb b 0) marks.now }
 {
     let mut n = 0;
     for i in 0..marks.len() {
@@ -117,7 +117,7 @@ pub fn net(references: u64, gained: u64, lost: u64) -> u64
 // Refusal 3: a net count that leaves 64 bits.
 pub fn nets_refusal(table: &[u64], gained: &[u64], lost: &[u64]) -> u8
     requires { (length (rows table.now) ≤ length gained.now) × (length (rows table.now) ≤ length lost.now) }
-    ensures { result ≡ unless (nets_from (old gained) (old lost) 0 (rows (old table))) 3 }
+    ensures { result ≡ unless (nets_from gained.now lost.now 0 (rows table.now)) 3 }
 {
     for k in 0..table.len() / 5 {
         let row = table::row_at(table, k);

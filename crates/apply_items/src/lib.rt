@@ -25,7 +25,7 @@ pub struct PassCursor {
 // An item as record k of a list.
 fn put_record(list: &mut [u8], k: usize, item: Item)
     requires { k < length list.old / 70 }
-    ensures { IsPut k (fields item) (old list) (new list) }
+    ensures { IsPut k (fields item) list.old list.new }
 {
     item::put_item(list, k * item::RECORD, item);
 }
@@ -34,7 +34,7 @@ fn put_record(list: &mut [u8], k: usize, item: Item)
 
 // Whether edit j has a key below this one.
 fn is_below(edits: &[u8], j: usize, key: u64) -> bool
-    ensures { result ≡ next_below key (drop j (edits_in (old edits))) }
+    ensures { result ≡ next_below key (drop j (edits_in edits.now)) }
 {
     if j >= edits.len() / item::EDIT {
         return false;
@@ -45,7 +45,7 @@ fn is_below(edits: &[u8], j: usize, key: u64) -> bool
 
 // Whether edit j has this key.
 fn is_at(edits: &[u8], j: usize, key: u64) -> bool
-    ensures { result ≡ next_at key (drop j (edits_in (old edits))) }
+    ensures { result ≡ next_at key (drop j (edits_in edits.now)) }
 {
     if j >= edits.len() / item::EDIT {
         return false;
@@ -57,7 +57,7 @@ fn is_at(edits: &[u8], j: usize, key: u64) -> bool
 // An edit of a lower key is passed; old record i is passed if the next edit names it, else it moves to place w.
 fn pack_step(list: &mut [u8], edits: &[u8], at: PassCursor) -> PassCursor
     requires { (at.i < length list.old / 70) × (at.w ≤ at.i) × (at.j ≤ length edits.now / 71) }
-    ensures { (at.i + at.j < result.i + result.j) × ((before : List ℕ) (n : ℕ) → at.i < n → Packing (old edits) before n at (old list) → Packing (old edits) before n result (new list)) }
+    ensures { (at.i + at.j < result.i + result.j) × ((before : List ℕ) (n : ℕ) → at.i < n → Packing edits.now before n at list.old → Packing edits.now before n result list.new) }
 {
     let item = item::item_at(list, at.i);
     if is_below(edits, at.j, item.key) {
@@ -85,7 +85,7 @@ fn pack_step(list: &mut [u8], edits: &[u8], at: PassCursor) -> PassCursor
 // The records of n that no edit names, moved to the front; how many they are.
 fn pack(list: &mut [u8], n: usize, edits: &[u8]) -> usize
     requires { (n ≤ length list.old / 70) × (pairs rises (take n (items list.old)) ≡ true) × (pairs edits_rise (edits_in edits.now) ≡ true) }
-    ensures { Packed (old edits) (old list) n result (new list) }
+    ensures { Packed edits.now list.old n result list.new }
 {
     let mut at = PassCursor { i: 0, j: 0, w: 0 };
     while at.i < n {
@@ -98,7 +98,7 @@ fn pack(list: &mut [u8], n: usize, edits: &[u8]) -> usize
 
 // How many edits put a record.
 fn count_puts(edits: &[u8]) -> usize
-    ensures { result ≡ length (puts_in (edits_in (old edits))) }
+    ensures { result ≡ length (puts_in (edits_in edits.now)) }
 {
     let mut n = 0;
     for j in 0..edits.len() / item::EDIT {
@@ -110,7 +110,7 @@ fn count_puts(edits: &[u8]) -> usize
 // Whether the last of the first i records has a key past this one.
 fn is_over(list: &[u8], i: usize, key: u64) -> bool
     requires { i ≤ length list.now / 70 }
-    ensures { result ≡ last_over key i (items (old list)) }
+    ensures { result ≡ last_over key i (items list.now) }
 {
     if i == 0 {
         return false;
@@ -122,7 +122,7 @@ fn is_over(list: &[u8], i: usize, key: u64) -> bool
 // A delete is passed; of the last record in front and the last put, the one with the larger key moves to its place.
 fn fill_step(list: &mut [u8], edits: &[u8], at: PassCursor) -> PassCursor
     requires { (0 < at.j) × (at.j ≤ length edits.now / 71) × (at.w ≤ length list.old / 70) × (at.w ≡ at.i + length (puts_in (take at.j (edits_in edits.now)))) }
-    ensures { (result.i + result.j < at.i + at.j) × ((before : List ℕ) (olds : List Fields) → Filling (old edits) before olds at (old list) → Filling (old edits) before olds result (new list)) }
+    ensures { (result.i + result.j < at.i + at.j) × ((before : List ℕ) (olds : List Fields) → Filling edits.now before olds at list.old → Filling edits.now before olds result list.new) }
 {
     let j = at.j - 1;
     if !plan_lines::is_put(edits, j) {
@@ -151,7 +151,7 @@ fn fill_step(list: &mut [u8], edits: &[u8], at: PassCursor) -> PassCursor
 fn fill(list: &mut [u8], n: usize, edits: &[u8], end: usize)
     requires { (n ≤ length list.old / 70) × (end ≤ length list.old / 70) × (end ≡ n + length (puts_in (edits_in edits.now)))
         × (pairs rises (take n (items list.old)) ≡ true) × (pairs edits_rise (edits_in edits.now) ≡ true) }
-    ensures { Same 70 (old list) (new list) × (items (new list) ≡ merged (take n (items (old list))) (edits_in (old edits)) ++ drop end (items (old list))) }
+    ensures { Same 70 list.old list.new × (items list.new ≡ merged (take n (items list.old)) (edits_in edits.now) ++ drop end (items list.old)) }
 {
     let mut at = PassCursor {
         i: n,
@@ -166,7 +166,7 @@ fn fill(list: &mut [u8], n: usize, edits: &[u8], end: usize)
 // A plan's edits applied to the first n records of a list, in place; how many records there are then.
 pub fn items_after(list: &mut [u8], n: usize, edits: &[u8]) -> usize
     requires { (n ≤ length list.old / 70) × Rising (take (n * 70) list.old) edits.now × (length (items_now (take (n * 70) list.old) edits.now) ≤ length list.old / 70) }
-    ensures { (result ≡ length (items_now (take (n * 70) (old list)) (old edits))) × (new list ≡ laid encode (items_now (take (n * 70) (old list)) (old edits)) (old list)) }
+    ensures { (result ≡ length (items_now (take (n * 70) list.old) edits.now)) × (list.new ≡ laid encode (items_now (take (n * 70) list.old) edits.now) list.old) }
 {
     let kept = pack(list, n, edits);
     let end = kept + count_puts(edits);

@@ -15,7 +15,7 @@ use records::{both, first, refusal, unless};
 
 // Refusal 1 of a plan's lines of broken length.
 fn lines_refusal(shares: &[u64], unrefs: &[u64], releases: &[u64], adds: &[u64]) -> u8
-    ensures { result ≡ unless ((eqb (length (old shares) % 2) 0 && eqb (length (old unrefs) % 2) 0) && (eqb (length (old releases) % 2) 0 && eqb (length (old adds) % 3) 0)) 1 }
+    ensures { result ≡ unless ((eqb (length shares.now % 2) 0 && eqb (length unrefs.now % 2) 0) && (eqb (length releases.now % 2) 0 && eqb (length adds.now % 3) 0)) 1 }
 {
     unless(
         both(
@@ -28,7 +28,7 @@ fn lines_refusal(shares: &[u64], unrefs: &[u64], releases: &[u64], adds: &[u64])
 
 // Refusal 1 of a plan's parts.
 fn parts_refusal(edits: &[u8], shares: &[u64], unrefs: &[u64], releases: &[u64], adds: &[u64]) -> u8
-    ensures { result ≡ parts_broken (parts_of (old edits) (old shares) (old unrefs) (old releases) (old adds)) }
+    ensures { result ≡ parts_broken (parts_of edits.now shares.now unrefs.now releases.now adds.now) }
 {
     first(
         apply_walk::edits_size_refusal(edits),
@@ -48,7 +48,7 @@ pub fn size_refusal(
     releases: &[u64],
     adds: &[u64],
 ) -> u8
-    ensures { result ≡ ones items rows (old list) (old table) (parts_of (old edits) (old shares) (old unrefs) (old releases) (old adds)) }
+    ensures { result ≡ ones items rows list.now table.now (parts_of edits.now shares.now unrefs.now releases.now adds.now) }
 {
     let counts = first(
         unless(items <= list.len() / item::RECORD, refusal::BROKEN),
@@ -68,7 +68,7 @@ pub fn size_refusal(
 
 // Refusals 4 of the sector and of a list.
 fn fours(sector: u64, list: &[u8]) -> u8
-    ensures { result ≡ first (unless (sector_sound sector) 4) (unless (every (whole_sectors sector) (items (old list))) 4) }
+    ensures { result ≡ first (unless (sector_sound sector) 4) (unless (every (whole_sectors sector) (items list.now)) 4) }
 {
     if !request::sector_sound(sector) {
         return refusal::SECTOR;
@@ -78,7 +78,7 @@ fn fours(sector: u64, list: &[u8]) -> u8
 
 // Refusals 2 to 4 of what is lent.
 pub fn lent_refusal(number: u64, sector: u64, list: &[u8], table: &[u64], edits: &[u8]) -> u8
-    ensures { result ≡ others number sector (old list) (old table) (old edits) }
+    ensures { result ≡ others number sector list.now table.now edits.now }
 {
     first(
         lists::list_refusal(list, number),
@@ -106,8 +106,8 @@ pub fn result_refusal(
 ) -> u8
     requires { Rising list.now edits.now × (0 < sector) × (table_kept (rows table.now) ≡ true)
         × (length (rows table.now) ≤ length gained.now) × (length (rows table.now) ≤ length lost.now) × (length (rows table.now) ≤ length gone.now) }
-    ensures { (generation : ℕ) (p : Plan) → Stands (old edits) (old adds) (rows (old table)) (old gained) (old lost) (old gone) missing p
-        → result ≡ result_refusal sector number generation room space (items (old list)) (rows (old table)) p }
+    ensures { (generation : ℕ) (p : Plan) → Stands edits.now adds.now (rows table.now) gained.now lost.now gone.now missing p
+        → result ≡ result_refusal sector number generation room space (items list.now) (rows table.now) p }
 {
     let count = table.len() / 5;
     let n = apply_walk::result_length(list, edits);

@@ -25,7 +25,7 @@ fn tag_refusal(tag: u8) -> u8
 
 // Refusal 1 of edits that are neither put nor delete.
 fn tags_refusal(edits: &[u8]) -> u8
-    ensures { result ≡ unless (every (λ (b : Bool). b) (records tag_sound 71 (old edits))) 1 }
+    ensures { result ≡ unless (every (λ (b : Bool). b) (records tag_sound 71 edits.now)) 1 }
 {
     for k in 0..edits.len() / item::EDIT {
         let why = tag_refusal(edits[k * item::EDIT]);
@@ -38,7 +38,7 @@ fn tags_refusal(edits: &[u8]) -> u8
 
 // Refusal 1 of edits: broken length, or neither put nor delete.
 pub fn edits_size_refusal(edits: &[u8]) -> u8
-    ensures { result ≡ unless (edits_sized (old edits)) 1 }
+    ensures { result ≡ unless (edits_sized edits.now) 1 }
 {
     first(
         unless(edits.len() % item::EDIT == 0, refusal::BROKEN),
@@ -48,7 +48,7 @@ pub fn edits_size_refusal(edits: &[u8]) -> u8
 
 // Refusal 2 of edits that do not rise by key.
 pub fn edits_order_refusal(edits: &[u8]) -> u8
-    ensures { result ≡ unless (pairs edits_rise (edits_in (old edits))) 2 }
+    ensures { result ≡ unless (pairs edits_rise (edits_in edits.now)) 2 }
 {
     for k in 1..edits.len() / item::EDIT {
         let before = plan_lines::edit_item(edits, k - 1);
@@ -94,7 +94,7 @@ pub fn is_some(origin: Origin) -> bool
 // of its key.
 pub fn next_record(list: &[u8], edits: &[u8], i: usize, j: usize) -> Step
     requires { Rising list.now edits.now × (i ≤ length list.now / 70) × (j ≤ length edits.now / 71) × (i + j < length list.now / 70 + length edits.now / 71) }
-    ensures { Walked (old list) (old edits) i j result }
+    ensures { Walked list.now edits.now i j result }
 {
     if j >= edits.len() / item::EDIT {
         let old = item::item_at(list, i);
@@ -137,7 +137,7 @@ pub fn next_record(list: &[u8], edits: &[u8], i: usize, j: usize) -> Step
 // How many records the result has.
 pub fn result_length(list: &[u8], edits: &[u8]) -> usize
     requires { Rising list.now edits.now }
-    ensures { result ≡ length (items_now (old list) (old edits)) }
+    ensures { result ≡ length (items_now list.now edits.now) }
 {
     let end = list.len() / item::RECORD + edits.len() / item::EDIT;
     let mut i = 0;
@@ -181,7 +181,7 @@ fn step_next(number: u64, sector: u64, last: Last, origin: Origin, item: Item) -
 // Refusal 2 of the result: not well kept, or not of whole sectors.
 pub fn result_refusal(number: u64, sector: u64, list: &[u8], edits: &[u8]) -> u8
     requires { Rising list.now edits.now × (0 < sector) }
-    ensures { result ≡ unless (result_sound number sector (items_now (old list) (old edits))) 2 }
+    ensures { result ≡ unless (result_sound number sector (items_now list.now edits.now)) 2 }
 {
     let end = list.len() / item::RECORD + edits.len() / item::EDIT;
     let mut i = 0;

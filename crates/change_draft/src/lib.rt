@@ -46,7 +46,7 @@ fn count_plan(
     table: &[u64],
 ) -> Counts
     requires { Started v f c p list.now shared.now table.now × (stage (rewrite_refusal (lent_ground v f list.now shared.now table.now)) (change_of c f.size).rewrites ≡ 0) }
-    ensures { result ≡ counts_of (plan_at v f c p (old list) (old shared) (old table) 1 1) }
+    ensures { result ≡ counts_of (plan_at v f c p list.now shared.now table.now 1 1) }
 {
     let none = [0u64; 1];
     let mut e = [0u8; 1];
@@ -148,7 +148,7 @@ pub fn draft_change(
     table: &[u64],
 ) -> Draft
     requires { Asked v f c w list.now shared.now table.now × Parting (in_leaves (items list.now) shared.now) c p }
-    ensures { draft_said (items (old list)) result ≡ drafted (lent_ground v f (old list) (old shared) (old table)) (filled_of c w (items (old list))) piece_limit }
+    ensures { draft_said (items list.now) result ≡ drafted (lent_ground v f list.now shared.now table.now) (filled_of c w (items list.now)) piece_limit }
 {
     let why = change_refusals::change_refusal(v, f, c, p, list, shared, table);
     if why != 0 {

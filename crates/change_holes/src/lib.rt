@@ -49,7 +49,7 @@ fn length_of(s: Bounds) -> u64
 // Where the gap before record n starts: where the record before it ends.
 fn gap_start(list: &[u8], from: u64, n: usize) -> u64
     requires { Ends (items list.now) × (n ≤ length (items list.now)) }
-    ensures { result ≡ gap_start from (items (old list)) n }
+    ensures { result ≡ gap_start from (items list.now) n }
 {
     if n == 0 {
         return from;
@@ -61,7 +61,7 @@ fn gap_start(list: &[u8], from: u64, n: usize) -> u64
 // Where it stops: at the record.
 fn gap_stop(list: &[u8], to: u64, n: usize) -> u64
     requires { n ≤ length (items list.now) }
-    ensures { result ≡ gap_stop to (items (old list)) n }
+    ensures { result ≡ gap_stop to (items list.now) n }
 {
     if n == list.len() / item::RECORD {
         return to;
@@ -73,7 +73,7 @@ fn gap_stop(list: &[u8], to: u64, n: usize) -> u64
 // Bounds n of the sweep: an even one lies before lo, an odd one from hi on.
 fn swept(w: NewExtents, list: &[u8], n: usize) -> Bounds
     requires { Ends (items list.now) × (n < 2 * (length (items list.now) + 1)) }
-    ensures { stretch_of result ≡ get_or (sweep w.lo w.hi w.from w.to (items (old list))) n (up_to 0 0) }
+    ensures { stretch_of result ≡ get_or (sweep w.lo w.hi w.from w.to (items list.now)) n (up_to 0 0) }
 {
     let a = gap_start(list, w.from, n / 2);
     let b = gap_stop(list, w.to, n / 2);
@@ -93,7 +93,7 @@ fn swept(w: NewExtents, list: &[u8], n: usize) -> Bounds
 // Bounds n of all.
 fn stretch_at(w: NewExtents, list: &[u8], n: usize) -> Bounds
     requires { Ends (items list.now) × (n < 2 * (length (items list.now) + 1) + 2) }
-    ensures { stretch_of result ≡ get_or (stretches w (items (old list))) n (up_to 0 0) }
+    ensures { stretch_of result ≡ get_or (stretches w (items list.now)) n (up_to 0 0) }
 {
     if n == 0 {
         return w.one;
@@ -123,7 +123,7 @@ fn piece_count(length: u64) -> usize
 
 pub fn sum_holes(w: NewExtents, list: &[u8]) -> Sums
     requires { Ends (items list.now) × (sum_of (sweep w.lo w.hi w.from w.to (items list.now)) ≤ 2 ^ 63) }
-    ensures { (result.bytes ≡ sum_of (sweep w.lo w.hi w.from w.to (items (old list)))) × (result.pieces ≡ length (flat_map (prealloc_pieces piece_limit) (sweep w.lo w.hi w.from w.to (items (old list))))) }
+    ensures { (result.bytes ≡ sum_of (sweep w.lo w.hi w.from w.to (items list.now))) × (result.pieces ≡ length (flat_map (prealloc_pieces piece_limit) (sweep w.lo w.hi w.from w.to (items list.now)))) }
 {
     let end = (list.len() / item::RECORD + 1) * 2;
     let mut bytes: u64 = 0;
@@ -151,7 +151,7 @@ pub fn walk_start() -> Cursor
 // On to the next stretch that is not empty, unless something is left of this one.
 fn settle(w: NewExtents, list: &[u8], c: Cursor) -> Cursor
     requires { Ends (items list.now) }
-    ensures { Settled w (items (old list)) c result }
+    ensures { Settled w (items list.now) c result }
 {
     let end = (list.len() / item::RECORD + 1) * 2 + 2;
     let mut rest = c.rest;
@@ -174,7 +174,7 @@ pub struct Step {
 // The next piece, if one is left: what is left of a stretch, up to the limit.
 pub fn next_piece(w: NewExtents, list: &[u8], c: Cursor) -> Step
     requires { Ends (items list.now) }
-    ensures { Walked w (items (old list)) c result }
+    ensures { Walked w (items list.now) c result }
 {
     let at = settle(w, list, c);
     let rest = at.rest;

@@ -52,7 +52,7 @@ fn lay_refs(
     releases: &mut [u64],
 ) -> RefCounts
     requires { Started v f c p list.now shared.now table.now }
-    ensures { RefsLaid (plan_at v f c p (old list) (old shared) (old table) 0 0) result (old shares) (old unrefs) (old releases) (new shares) (new unrefs) (new releases) }
+    ensures { RefsLaid (plan_at v f c p list.now shared.now table.now 0 0) result shares.old unrefs.old releases.old shares.new unrefs.new releases.new }
 {
     let mut seg = [0u8; 280];
     let k = change_lines::cut_of(c, p);
@@ -79,7 +79,7 @@ fn lay_edits(
     edits: &mut [u8],
 ) -> Edited
     requires { Started v f c p list.now shared.now table.now × Pieced (items list.now) (items_of (after_at v f c p list.now shared.now table.now x y)) (piece_items f.number (v.generation + 1) pieces.now) }
-    ensures { EditsLaid f.number (edits_at v f c p (old list) (old shared) (old table) x y (old pieces)) (plan_at v f c p (old list) (old shared) (old table) x y).bytes result (old edits) (new edits) }
+    ensures { EditsLaid f.number (edits_at v f c p list.now shared.now table.now x y pieces.now) (plan_at v f c p list.now shared.now table.now x y).bytes result edits.old edits.new }
 {
     let mut seg = [0u8; 420];
     let s = change_segment::changed_segment(v, f, c, p, x, y, list, &mut seg);
@@ -110,7 +110,7 @@ pub fn lay_plan(
     requires { Started v f c p list.now shared.now table.now
         × (stage (rewrite_refusal (lent_ground v f list.now shared.now table.now)) (change_of c f.size).rewrites ≡ 0)
         × Pieced (items list.now) (items_of (after_at v f c p list.now shared.now table.now x y)) (piece_items f.number (v.generation + 1) pieces.now) }
-    ensures { PlanLaidIn f.number (plan_at v f c p (old list) (old shared) (old table) x y) (edits_at v f c p (old list) (old shared) (old table) x y (old pieces))
+    ensures { PlanLaidIn f.number (plan_at v f c p list.now shared.now table.now x y) (edits_at v f c p list.now shared.now table.now x y pieces.now)
         result (five edits shares unrefs releases writes) }
 {
     let refs = lay_refs(v, f, c, p, list, shared, table, shares, unrefs, releases);

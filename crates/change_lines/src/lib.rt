@@ -26,7 +26,7 @@ use drop_lines::Cut;
 // A sector's write to its new extent as line n, if it takes one.
 fn put_new_write(anew: bool, r: Rewrite, place: u64, out: &mut [u64], n: usize) -> usize
     requires { n + 1 < 2 ^ 64 }
-    ensures { Laid write_numbers 4 n (only anew (write_at r place)) (old out) result (new out) }
+    ensures { Laid write_numbers 4 n (only anew (write_at r place)) out.old result out.new }
 {
     if !anew {
         return n;
@@ -37,7 +37,7 @@ fn put_new_write(anew: bool, r: Rewrite, place: u64, out: &mut [u64], n: usize) 
 // The writes in place of a plan.
 fn put_writes_in_place(c: RangeChange, p: Parts, out: &mut [u64]) -> usize
     requires { Writable c.front p.front × Writable c.back p.back }
-    ensures { Laid write_numbers 4 0 (sides p.front.found p.back.found (write_in_place c.front (holder_leaf p.front)) (write_in_place c.back (holder_leaf p.back))) (old out) result (new out) }
+    ensures { Laid write_numbers 4 0 (sides p.front.found p.back.found (write_in_place c.front (holder_leaf p.front)) (write_in_place c.back (holder_leaf p.back))) out.old result out.new }
 {
     let n = change_rewrites::put_in_place(c.front, p.front, out, 0);
     change_rewrites::put_in_place(c.back, p.back, out, n)
@@ -46,7 +46,7 @@ fn put_writes_in_place(c: RangeChange, p: Parts, out: &mut [u64]) -> usize
 // The writes of a plan: those in place first.
 pub fn put_writes(c: RangeChange, p: Parts, x: u64, y: u64, out: &mut [u64]) -> usize
     requires { Writable c.front p.front × Writable c.back p.back }
-    ensures { Laid write_numbers 4 0 (writes_of c p x y) (old out) result (new out) }
+    ensures { Laid write_numbers 4 0 (writes_of c p x y) out.old result out.new }
 {
     let n = put_writes_in_place(c, p, out);
     let m = put_new_write(front_new(c, p), c.front, x, out, n);
@@ -70,7 +70,7 @@ pub fn cut_of(c: RangeChange, p: Parts) -> Cut
 // The references of the extents written in place that there are more of after the change than before.
 pub fn put_more(k: Cut, list: &[u8], seg: &[u8], s: Segment, out: &mut [u64], n: usize) -> usize
     requires { Good list.now s seg.now × (n + s.count < 2 ^ 64) }
-    ensures { Laid ref_numbers 2 n (compared_of k (middle (items (old list)) s) (segment_of s (old seg))) (old out) result (new out) }
+    ensures { Laid ref_numbers 2 n (compared_of k (middle (items list.now) s) (segment_of s seg.now)) out.old result out.new }
 {
     let from = s.from * item::RECORD;
     let to = s.to * item::RECORD;
@@ -81,7 +81,7 @@ pub fn put_more(k: Cut, list: &[u8], seg: &[u8], s: Segment, out: &mut [u64], n:
 // Those that there are fewer of.
 fn put_fewer(k: Cut, list: &[u8], seg: &[u8], s: Segment, out: &mut [u64], n: usize) -> usize
     requires { Good list.now s seg.now × (n + length (items list.now) < 2 ^ 64) }
-    ensures { Laid ref_numbers 2 n (compared_of k (segment_of s (old seg)) (middle (items (old list)) s)) (old out) result (new out) }
+    ensures { Laid ref_numbers 2 n (compared_of k (segment_of s seg.now) (middle (items list.now) s)) out.old result out.new }
 {
     let from = s.from * item::RECORD;
     let to = s.to * item::RECORD;
@@ -92,7 +92,7 @@ fn put_fewer(k: Cut, list: &[u8], seg: &[u8], s: Segment, out: &mut [u64], n: us
 // The shares of a plan: splits, then the references that there are more of.
 pub fn put_shares(k: Cut, list: &[u8], seg: &[u8], s: Segment, out: &mut [u64]) -> usize
     requires { Good list.now s seg.now × (length (items list.now) ≤ 65536) × (s.count ≤ 4) × Runs 0 (items list.now) }
-    ensures { Laid ref_numbers 2 0 (shares_of k (items (old list)) s (segment_of s (old seg))) (old out) result (new out) }
+    ensures { Laid ref_numbers 2 0 (shares_of k (items list.now) s (segment_of s seg.now)) out.old result out.new }
 {
     let n = cut_touched::put_splits(k, list, out, 0);
     put_more(k, list, seg, s, out, n)
@@ -109,7 +109,7 @@ pub fn put_unrefs(
     out: &mut [u64],
 ) -> usize
     requires { Good list.now s seg.now × (length (items list.now) ≤ 65536) × (table_kept (rows table.now) ≡ true) × (length shared.now ≡ length (items list.now)) × Runs 0 (items list.now) }
-    ensures { Laid ref_numbers 2 0 (unrefs_of k (rows (old table)) (items (old list)) (old shared) s (segment_of s (old seg))) (old out) result (new out) }
+    ensures { Laid ref_numbers 2 0 (unrefs_of k (rows table.now) (items list.now) shared.now s (segment_of s seg.now)) out.old result out.new }
 {
     let n = put_fewer(k, list, seg, s, out, 0);
     cut_touched::put_drops(k, false, list, shared, table, out, n)
@@ -131,7 +131,7 @@ pub fn put_changes(
         × (pairs rises (piece_items file generation pieces.now) ≡ true)
         × (pairs rises (items_of (insert_all (piece_items file generation pieces.now) (map built (segment_of s seg.now)))) ≡ true)
         × (length (items list.now) ≤ 65536) × (s.count ≤ 6) }
-    ensures { Laid (edit_bytes file) 71 0 (edits (middle (items (old list)) s) (insert_all (piece_items file generation (old pieces)) (map built (segment_of s (old seg))))) (old out) result (new out) }
+    ensures { Laid (edit_bytes file) 71 0 (edits (middle (items list.now) s) (insert_all (piece_items file generation pieces.now) (map built (segment_of s seg.now)))) out.old result out.new }
 {
     let from = s.from * item::RECORD;
     let to = s.to * item::RECORD;
@@ -150,7 +150,7 @@ pub fn put_changes(
 // The bytes that records from..to of a list count.
 fn bytes_in(list: &[u8], from: usize, to: usize) -> u64
     requires { (from ≤ to) × (to ≤ length (items list.now)) × (counted_bytes (take (to - from) (drop from (items list.now))) < 2 ^ 64) }
-    ensures { result ≡ counted_bytes (take (to - from) (drop from (items (old list)))) }
+    ensures { result ≡ counted_bytes (take (to - from) (drop from (items list.now))) }
 {
     let a = from * item::RECORD;
     let b = to * item::RECORD;
@@ -160,7 +160,7 @@ fn bytes_in(list: &[u8], from: usize, to: usize) -> u64
 // The bytes that the file's items count after the change.
 pub fn bytes_after(list: &[u8], seg: &[u8], s: Segment) -> u64
     requires { Good list.now s seg.now × (bytes_of (items list.now) s (segment_of s seg.now) < 2 ^ 64) }
-    ensures { result ≡ bytes_of (items (old list)) s (segment_of s (old seg)) }
+    ensures { result ≡ bytes_of (items list.now) s (segment_of s seg.now) }
 {
     bytes_in(list, 0, s.from)
         + (bytes_in(seg, 0, s.count) + bytes_in(list, s.to, list.len() / item::RECORD))

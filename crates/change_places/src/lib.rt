@@ -17,7 +17,7 @@ use records::{first, refusal, unless};
 // Refusal 26 of each place by itself.
 fn each_refusal(w: NewExtents, list: &[u8], table: &[u64], places: &[u64]) -> u8
     requires { Ends (items list.now) × (table_kept (rows table.now) ≡ true) × (length (wishes w (items list.now)) ≡ length places.now) }
-    ensures { result ≡ unless (every (place_sound (rows (old table))) (placed (old places) (map wanted_of (wishes w (items (old list)))))) 26 }
+    ensures { result ≡ unless (every (place_sound (rows table.now)) (placed places.now (map wanted_of (wishes w (items list.now))))) 26 }
 {
     let mut c = change_holes::walk_start();
     for n in 0..places.len() {
@@ -42,7 +42,7 @@ fn apart_refusal(
     size: u64,
 ) -> u8
     requires { Ends (items list.now) × (length (drop from places.now) ≤ length (left w (items list.now) c)) }
-    ensures { result ≡ unless (every (places_apart (add_at start size)) (placed (drop from (old places)) (map wanted_of (left w (items (old list)) c)))) 26 }
+    ensures { result ≡ unless (every (places_apart (add_at start size)) (placed (drop from places.now) (map wanted_of (left w (items list.now) c)))) 26 }
 {
     let mut c = c;
     for n in from..places.len() {
@@ -62,7 +62,7 @@ fn apart_refusal(
 // Refusal 26 of each two places, by pairs.
 fn plain_refusal(w: NewExtents, list: &[u8], places: &[u64]) -> u8
     requires { Ends (items list.now) × (length places.now ≤ length (wishes w (items list.now))) }
-    ensures { result ≡ unless (pairs places_apart (placed (old places) (map wanted_of (wishes w (items (old list)))))) 26 }
+    ensures { result ≡ unless (pairs places_apart (placed places.now (map wanted_of (wishes w (items list.now))))) 26 }
 {
     let mut c = change_holes::walk_start();
     for n in 0..places.len() {
@@ -79,7 +79,7 @@ fn plain_refusal(w: NewExtents, list: &[u8], places: &[u64]) -> u8
 // The extents at their places, each as a pair of its start and length.
 fn put_extents(w: NewExtents, list: &[u8], places: &[u64], out: &mut [u64]) -> usize
     requires { Ends (items list.now) × (length places.now ≤ length (wishes w (items list.now))) }
-    ensures { Laid extent_numbers 2 0 (placed (old places) (map wanted_of (wishes w (items (old list))))) (old out) result (new out) }
+    ensures { Laid extent_numbers 2 0 (placed places.now (map wanted_of (wishes w (items list.now)))) out.old result out.new }
 {
     let mut c = change_holes::walk_start();
     let mut k = 0;
@@ -100,7 +100,7 @@ fn sorted_refusal(
     spare: &mut [u64],
 ) -> u8
     requires { Ends (items list.now) × (length places.now ≤ length (wishes w (items list.now))) × (length places.now * 2 ≤ length xs.old) × (length xs.old ≤ length spare.old) }
-    ensures { result ≡ unless (pairs places_apart (placed (old places) (map wanted_of (wishes w (items (old list)))))) 26 }
+    ensures { result ≡ unless (pairs places_apart (placed places.now (map wanted_of (wishes w (items list.now))))) 26 }
 {
     let n = put_extents(w, list, places, xs);
     unless(plan_apart::are_apart(xs, n, spare), refusal::PLACE)
@@ -109,7 +109,7 @@ fn sorted_refusal(
 // The same with buffers of its own, for up to 1,024 places: small ones take less time to zero.
 fn few_refusal(w: NewExtents, list: &[u8], places: &[u64]) -> u8
     requires { Ends (items list.now) × (length places.now ≤ length (wishes w (items list.now))) × (length places.now ≤ 1024) }
-    ensures { result ≡ unless (pairs places_apart (placed (old places) (map wanted_of (wishes w (items (old list)))))) 26 }
+    ensures { result ≡ unless (pairs places_apart (placed places.now (map wanted_of (wishes w (items list.now))))) 26 }
 {
     let mut xs = [0u64; 2048];
     let mut spare = [0u64; 2048];
@@ -119,7 +119,7 @@ fn few_refusal(w: NewExtents, list: &[u8], places: &[u64]) -> u8
 // For up to 8,192.
 fn several_refusal(w: NewExtents, list: &[u8], places: &[u64]) -> u8
     requires { Ends (items list.now) × (length places.now ≤ length (wishes w (items list.now))) × (length places.now ≤ 8192) }
-    ensures { result ≡ unless (pairs places_apart (placed (old places) (map wanted_of (wishes w (items (old list)))))) 26 }
+    ensures { result ≡ unless (pairs places_apart (placed places.now (map wanted_of (wishes w (items list.now))))) 26 }
 {
     let mut xs = [0u64; 16384];
     let mut spare = [0u64; 16384];
@@ -129,7 +129,7 @@ fn several_refusal(w: NewExtents, list: &[u8], places: &[u64]) -> u8
 // For up to 65,536.
 fn many_refusal(w: NewExtents, list: &[u8], places: &[u64]) -> u8
     requires { Ends (items list.now) × (length places.now ≤ length (wishes w (items list.now))) × (length places.now ≤ 65536) }
-    ensures { result ≡ unless (pairs places_apart (placed (old places) (map wanted_of (wishes w (items (old list)))))) 26 }
+    ensures { result ≡ unless (pairs places_apart (placed places.now (map wanted_of (wishes w (items list.now))))) 26 }
 {
     let mut xs = [0u64; 131072];
     let mut spare = [0u64; 131072];
@@ -140,7 +140,7 @@ fn many_refusal(w: NewExtents, list: &[u8], places: &[u64]) -> u8
 // calls itself, the compiler leaves the buffers to the functions that have them: within a caller they would cost every call.
 fn pairs_refusal(w: NewExtents, list: &[u8], places: &[u64]) -> u8
     requires { Ends (items list.now) × (length places.now ≤ length (wishes w (items list.now))) }
-    ensures { result ≡ unless (pairs places_apart (placed (old places) (map wanted_of (wishes w (items (old list)))))) 26 }
+    ensures { result ≡ unless (pairs places_apart (placed places.now (map wanted_of (wishes w (items list.now))))) 26 }
 {
     let n = places.len();
     if n <= 16 {
@@ -172,7 +172,7 @@ pub fn places_refusal(
     places: &[u64],
 ) -> u8
     requires { Ends (items list.now) × (table_kept (rows table.now) ≡ true) × (length (wishes w (items list.now)) ≡ wanted) }
-    ensures { result ≡ unless (places_sound (rows (old table)) (old places) (map wanted_of (wishes w (items (old list))))) 26 }
+    ensures { result ≡ unless (places_sound (rows table.now) places.now (map wanted_of (wishes w (items list.now)))) 26 }
 {
     if places.len() != wanted {
         return refusal::PLACE;
@@ -186,7 +186,7 @@ pub fn places_refusal(
 // The adds: each new extent at its place.
 pub fn put_adds(w: NewExtents, list: &[u8], places: &[u64], out: &mut [u64]) -> usize
     requires { Ends (items list.now) × (length (wishes w (items list.now)) ≡ length places.now) }
-    ensures { Laid add_numbers 3 0 (placed (old places) (map wanted_of (wishes w (items (old list))))) (old out) result (new out) }
+    ensures { Laid add_numbers 3 0 (placed places.now (map wanted_of (wishes w (items list.now)))) out.old result out.new }
 {
     let mut c = change_holes::walk_start();
     let mut m = 0;

@@ -22,7 +22,7 @@ use request::{Answer, File, Volume};
 
 // The nth place; 0 past the last.
 fn place_at(places: &[u64], n: usize) -> u64
-    ensures { result ≡ get_or (old places) n 0 }
+    ensures { result ≡ get_or places.now n 0 }
 {
     if n < places.len() { places[n] } else { 0 }
 }
@@ -41,7 +41,7 @@ fn finish_refusal(
     writes: usize,
 ) -> u8
     requires { Ends (items list.now) × (table_kept (rows table.now) ≡ true) × (length (wishes n.extents (items list.now)) ≡ n.numbers.adds) }
-    ensures { FinishWhy n (items (old list)) (rows (old table)) (old places) (record { edits = edits; shares = shares; unrefs = unrefs; releases = releases; adds = adds; writes = writes }) result }
+    ensures { FinishWhy n (items list.now) (rows table.now) places.now (record { edits = edits; shares = shares; unrefs = unrefs; releases = releases; adds = adds; writes = writes }) result }
 {
     let numbers = n.numbers;
     first(
@@ -73,7 +73,7 @@ fn write_plan(
         × (places_sound (rows table.now) places.now (wanted (lent_ground v f list.now shared.now table.now) (filled_of c w (items list.now)) piece_limit) ≡ true)
         × (room_for (rooms_of (outs edits.old shares.old unrefs.old releases.old adds.old writes.old))
         (plan_of (lent_ground v f list.now shared.now table.now) (filled_of c w (items list.now)) piece_limit places.now) ≡ true) }
-    ensures { LeftBy f.number (plan (plan_of (lent_ground v f (old list) (old shared) (old table)) (filled_of c w (items (old list))) piece_limit (old places)))
+    ensures { LeftBy f.number (plan (plan_of (lent_ground v f list.now shared.now table.now) (filled_of c w (items list.now)) piece_limit places.now))
         (six edits shares unrefs releases adds writes) }
 {
     let x = place_at(places, 0);
@@ -119,7 +119,7 @@ fn finish_change(
     writes: &mut [u64],
 ) -> Answer
     requires { Accepted v f c w p n list.now shared.now table.now }
-    ensures { Met f.number (changed (lent_ground v f (old list) (old shared) (old table)) (filled_of c w (items (old list))) piece_limit (old places))
+    ensures { Met f.number (changed (lent_ground v f list.now shared.now table.now) (filled_of c w (items list.now)) piece_limit places.now)
         result (six edits shares unrefs releases adds writes) }
 {
     let short = finish_refusal(
@@ -163,7 +163,7 @@ pub fn change_range(
     writes: &mut [u64],
 ) -> Answer
     requires { Asked v f c w list.now shared.now table.now }
-    ensures { Met f.number (changed (lent_ground v f (old list) (old shared) (old table)) (filled_of c w (items (old list))) piece_limit (old places))
+    ensures { Met f.number (changed (lent_ground v f list.now shared.now table.now) (filled_of c w (items list.now)) piece_limit places.now)
         result (six edits shares unrefs releases adds writes) }
 {
     let p = change_segment::parts_of(c, list, shared);

@@ -32,7 +32,7 @@ fn rewrite_if(
     table: &[u64],
 ) -> u8
     requires { Sound (lent_ground v f list.now shared.now table.now) × (length shared.now ≡ length (items list.now)) }
-    ensures { result ≡ stage (rewrite_refusal (lent_ground v f (old list) (old shared) (old table))) (only has r) }
+    ensures { result ≡ stage (rewrite_refusal (lent_ground v f list.now shared.now table.now)) (only has r) }
 {
     if !has {
         return 0;
@@ -50,7 +50,7 @@ pub fn rewrites_refusal(
     table: &[u64],
 ) -> u8
     requires { Sound (lent_ground v f list.now shared.now table.now) × (length shared.now ≡ length (items list.now)) }
-    ensures { result ≡ stage (rewrite_refusal (lent_ground v f (old list) (old shared) (old table))) (change_of c f.size).rewrites }
+    ensures { result ≡ stage (rewrite_refusal (lent_ground v f list.now shared.now table.now)) (change_of c f.size).rewrites }
 {
     let front = rewrite_if(c.has_front, v, f, c.front, list, shared, table);
     let back = rewrite_if(c.has_back, v, f, c.back, list, shared, table);
@@ -61,8 +61,8 @@ pub fn rewrites_refusal(
 // after the change than before. They are at most 4, as the items that are made.
 pub fn shares_refusal(v: Volume, c: RangeChange, p: Parts, list: &[u8], table: &[u64]) -> u8
     requires { Ready v c p list.now × (table_kept (rows table.now) ≡ true) }
-    ensures { (f : File) (shared : List ℕ) → Parting (in_leaves (items (old list)) shared) c p → length shared ≡ length (items (old list))
-        → result ≡ stage (λ (q : Ref). one_more_reference q.start (rows (old table))) (shares_compared (lent_ground v f (old list) shared (old table)) (change_of c f.size)) }
+    ensures { (f : File) (shared : List ℕ) → Parting (in_leaves (items list.now) shared) c p → length shared ≡ length (items list.now)
+        → result ≡ stage (λ (q : Ref). one_more_reference q.start (rows table.now)) (shares_compared (lent_ground v f list.now shared table.now) (change_of c f.size)) }
 {
     let mut seg = [0u8; 280];
     let mut lines = [0u64; 8];
@@ -84,7 +84,7 @@ pub fn change_refusal(
     table: &[u64],
 ) -> u8
     requires { Begun v f c p list.now shared.now table.now }
-    ensures { result ≡ change_refusal (lent_ground v f (old list) (old shared) (old table)) (change_of c f.size) }
+    ensures { result ≡ change_refusal (lent_ground v f list.now shared.now table.now) (change_of c f.size) }
 {
     if v.generation == 18446744073709551615 {
         return refusal::GENERATION;

@@ -54,7 +54,7 @@ fn no_holder() -> Holder
 // The port's `holding_item`: of records that run one behind the other only the first that ends past the offset can hold it.
 pub fn holding_item(o: u64, list: &[u8], shared: &[u8]) -> Holder
     requires { (length shared.now ≡ length (items list.now)) × Runs 0 (items list.now) }
-    ensures { holder_in result ≡ holder_of o (in_leaves (items (old list)) (old shared)) }
+    ensures { holder_in result ≡ holder_of o (in_leaves (items list.now) shared.now) }
 {
     let i = cut_segment::ending_by(list, o);
     if list.len() / item::RECORD <= i {
@@ -73,7 +73,7 @@ pub fn holding_item(o: u64, list: &[u8], shared: &[u8]) -> Holder
 
 // How many items of a list name the extent at `start`.
 pub fn naming(list: &[u8], start: u64) -> usize
-    ensures { result ≡ naming start (items (old list)) }
+    ensures { result ≡ naming start (items list.now) }
 {
     let n = list.len() / item::RECORD;
     let mut k: usize = 0;
@@ -95,7 +95,7 @@ pub fn position_of(r: Rewrite, h: Holder) -> u64
 // Refusals 14, 17 and 18 of writing a sector in place.
 fn in_place_refusal(v: Volume, r: Rewrite, h: Holder, list: &[u8], table: &[u64]) -> u8
     requires { (range_sound (fields h.item) ≡ true) × (holds r.sector (fields h.item) ≡ true) × (table_kept (rows table.now) ≡ true) }
-    ensures { result ≡ in_place_why v.sector v.snapshot (items (old list)) (rows (old table)) r (holder_leaf h) }
+    ensures { result ≡ in_place_why v.sector v.snapshot (items list.now) (rows table.now) r (holder_leaf h) }
 {
     let item = h.item;
     let start = item.extent_start();
@@ -123,7 +123,7 @@ pub fn rewrite_refusal(
     table: &[u64],
 ) -> u8
     requires { Sound (lent_ground v f list.now shared.now table.now) × (length shared.now ≡ length (items list.now)) }
-    ensures { result ≡ rewrite_refusal (lent_ground v f (old list) (old shared) (old table)) r }
+    ensures { result ≡ rewrite_refusal (lent_ground v f list.now shared.now table.now) r }
 {
     let h = holding_item(r.sector, list, shared);
     if !h.found {
@@ -141,7 +141,7 @@ pub fn rewrite_refusal(
 // The preallocated item that holds a sector, if there is one and the sector is to be rewritten: it is then written in place.
 pub fn preallocated(has: bool, r: Rewrite, list: &[u8], shared: &[u8]) -> Holder
     requires { (length shared.now ≡ length (items list.now)) × Runs 0 (items list.now) }
-    ensures { holder_in result ≡ cond has (preallocated_in (in_leaves (items (old list)) (old shared)) r) none }
+    ensures { holder_in result ≡ cond has (preallocated_in (in_leaves (items list.now) shared.now) r) none }
 {
     if !has {
         return no_holder();
@@ -175,7 +175,7 @@ pub fn item_in_place(v: Volume, r: Rewrite, h: Holder) -> Item
 // The write of a sector in place, if it is one, as line n.
 pub fn put_in_place(r: Rewrite, h: Holder, out: &mut [u64], n: usize) -> usize
     requires { (h.found ≡ true → (range_sound (fields h.item) ≡ true) × (holds r.sector (fields h.item) ≡ true) × ((fields h.item).extent_start + position_of r (holder_leaf h) < 2 ^ 64)) × (n + 1 < 2 ^ 64) }
-    ensures { Laid write_numbers 4 n (only h.found (write_in_place r (holder_leaf h))) (old out) result (new out) }
+    ensures { Laid write_numbers 4 n (only h.found (write_in_place r (holder_leaf h))) out.old result out.new }
 {
     if !h.found {
         return n;

@@ -25,7 +25,7 @@ pub struct Parts {
 
 pub fn parts_of(c: RangeChange, list: &[u8], shared: &[u8]) -> Parts
     requires { (length shared.now ≡ length (items list.now)) × Runs 0 (items list.now) }
-    ensures { Parting (in_leaves (items (old list)) (old shared)) c result }
+    ensures { Parting (in_leaves (items list.now) shared.now) c result }
 {
     Parts {
         front: change_rewrites::preallocated(c.has_front, c.front, list, shared),
@@ -36,7 +36,7 @@ pub fn parts_of(c: RangeChange, list: &[u8], shared: &[u8]) -> Parts
 // The item over a sector that is written in place, put into the segment.
 fn insert_in_place(v: Volume, r: Rewrite, h: Holder, seg: &mut [u8], s: Segment) -> Segment
     requires { (h.found ≡ true → (range_sound (fields h.item) ≡ true) × (holds r.sector (fields h.item) ≡ true)) × (v.generation + 1 < 2 ^ 64) × ((s.count + 1) * 70 ≤ length seg.old) }
-    ensures { PutIf h.found (part_item v r h) s (old seg) result (new seg) }
+    ensures { PutIf h.found (part_item v r h) s seg.old result seg.new }
 {
     if !h.found {
         return s;
@@ -47,7 +47,7 @@ fn insert_in_place(v: Volume, r: Rewrite, h: Holder, seg: &mut [u8], s: Segment)
 // The joins around a sector that is written in place.
 fn join_part(v: Volume, r: Rewrite, h: Holder, list: &[u8], seg: &mut [u8], s: Segment) -> Segment
     requires { (v.generation + 1 < 2 ^ 64) × (h.found ≡ true → Good list.now s seg.old × Around r.sector list.now s × (0 < s.count) × ((item_at seg.old 0).key ≤ r.sector)) }
-    ensures { JoinedIf h.found (v.generation + 1) r.sector (old list) s (old seg) result (new seg) }
+    ensures { JoinedIf h.found (v.generation + 1) r.sector list.now s seg.old result seg.new }
 {
     if !h.found {
         return s;
@@ -58,7 +58,7 @@ fn join_part(v: Volume, r: Rewrite, h: Holder, list: &[u8], seg: &mut [u8], s: S
 // What the change makes of the list, with no place taken: the cut, the sectors written in place, the joins around them.
 pub fn joined_segment(v: Volume, c: RangeChange, p: Parts, list: &[u8], seg: &mut [u8]) -> Segment
     requires { Ready v c p list.now × (280 ≤ length seg.old) }
-    ensures { Made (joined_pieces v c p (items (old list))) c.lo c.hi 4 (old list) result (new seg) }
+    ensures { Made (joined_pieces v c p (items list.now)) c.lo c.hi 4 list.now result seg.new }
 {
     let cut = cut_segment::cut_segment(list, c.lo, c.hi, seg);
     let one = insert_in_place(v, c.front, p.front, seg, cut);
@@ -78,7 +78,7 @@ fn insert_new(
     s: Segment,
 ) -> Segment
     requires { (v.generation + 1 < 2 ^ 64) × ((s.count + 1) * 70 ≤ length seg.old) }
-    ensures { PutIf anew (new_item v f r place) s (old seg) result (new seg) }
+    ensures { PutIf anew (new_item v f r place) s seg.old result seg.new }
 {
     if !anew {
         return s;
@@ -114,7 +114,7 @@ pub fn changed_segment(
     seg: &mut [u8],
 ) -> Segment
     requires { Ready v c p list.now × (420 ≤ length seg.old) }
-    ensures { Made (after_pieces v f c p x y (items (old list))) c.lo c.hi 6 (old list) result (new seg) }
+    ensures { Made (after_pieces v f c p x y (items list.now)) c.lo c.hi 6 list.now result seg.new }
 {
     let s = joined_segment(v, c, p, list, seg);
     let t = insert_new(v, f, front_new(c, p), c.front, x, seg, s);

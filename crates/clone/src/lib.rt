@@ -24,7 +24,7 @@ use request::{Answer, File, Numbers, Volume};
 
 // The list that is read as source: for one file cloned into itself the destination's.
 fn source_list<'a>(own: bool, list: &'a [u8], source: &'a [u8]) -> &'a [u8]
-    ensures { result.now ≡ chosen own (old list) (old source) }
+    ensures { result.now ≡ chosen own list.now source.now }
 {
     if own { list } else { source }
 }
@@ -48,7 +48,7 @@ fn lent_asked(
     source: &[u8],
     table: &[u64],
 ) -> u8
-    ensures { result ≡ lent_asked v dst src own s (old list) (old shared) (old source) (old table) }
+    ensures { result ≡ lent_asked v dst src own s list.now shared.now source.now table.now }
 {
     let lent = request::lent_refusal2(v, dst, src, own, list, shared, source, table);
     if lent != 0 {
@@ -60,7 +60,7 @@ fn lent_asked(
 // Refusals 6, 23 and 24, those of the destination's records, and 25.
 fn destination_asked(sector: u64, own: bool, size: u64, s: CloneRange, list: &[u8]) -> u8
     requires { (sector_sound sector ≡ true) × (s.from + s.length < 2 ^ 63) }
-    ensures { result ≡ destination_asked sector own size s (items (old list)) }
+    ensures { result ≡ destination_asked sector own size s (items list.now) }
 {
     let range = clone_span::destination_refusal(sector, own, size, s);
     let grows = clone_span::growth_refusal(sector, size, s.to, s.length, list);
@@ -71,7 +71,7 @@ fn destination_asked(sector: u64, own: bool, size: u64, s: CloneRange, list: &[u
 fn copies_asked(generation: u64, c: Copying, list: &[u8], source: &[u8], table: &[u64]) -> u8
     requires table_value { table_kept (rows table.now) ≡ true }
     requires in_files { InFiles c × (every range_kept (items source.now) ≡ true) × Runs 0 (items list.now) }
-    ensures { (bs : List ℕ) → length bs ≡ length (items (old list)) → result ≡ copies_asked generation c (items (old list)) bs (items (old source)) (rows (old table)) }
+    ensures { (bs : List ℕ) → length bs ≡ length (items list.now) → result ≡ copies_asked generation c (items list.now) bs (items source.now) (rows table.now) }
 {
     let k = clone_lay::cut_for(c);
     let drop = cut_touched::drops_refusal(k, list, table);
@@ -136,7 +136,7 @@ fn count_clone(
     table: &[u64],
 ) -> Numbers
     requires { Replacing c list.now shared.now source.now table.now }
-    ensures { result ≡ numbers (plan_for c (items (old list)) (old shared) (items (old source)) (rows (old table)) size) }
+    ensures { result ≡ numbers (plan_for c (items list.now) shared.now (items source.now) (rows table.now) size) }
 {
     let mut e = [0u8; 1];
     let mut s = [0u64; 1];
@@ -161,7 +161,7 @@ fn draft_clone(
     table: &[u64],
 ) -> Answer
     requires { Chosen own dst src list.now source.now }
-    ensures { said result ≡ told (drafted_lent v dst src own s (old list) (old shared) (old source) (old table)) }
+    ensures { said result ≡ told (drafted_lent v dst src own s list.now shared.now source.now table.now) }
 {
     let m = meant(src.size, s);
     let lent = lent_asked(v, dst, src, own, m, list, shared, source, table);
@@ -198,7 +198,7 @@ fn finish_clone(
     releases: &mut [u64],
 ) -> Answer
     requires { Replacing c list.now shared.now source.now table.now × (n ≡ numbers (plan_for c (items list.now) shared.now (items source.now) (rows table.now) n.size)) }
-    ensures { Met c.number (λ rooms. with_room rooms (plan (plan_for c (items (old list)) (old shared) (items (old source)) (rows (old table)) n.size))) result (four edits shares unrefs releases) }
+    ensures { Met c.number (λ rooms. with_room rooms (plan (plan_for c (items list.now) shared.now (items source.now) (rows table.now) n.size))) result (four edits shares unrefs releases) }
 {
     let short = plan_places::room_refusal(
         n,
@@ -237,7 +237,7 @@ pub fn clone_range<'a>(
     unrefs: &mut [u64],
     releases: &mut [u64],
 ) -> Answer
-    ensures { Met dst.number (clone_lent v dst src own s (old list) (old shared) (old source) (old table)) result (four edits shares unrefs releases) }
+    ensures { Met dst.number (clone_lent v dst src own s list.now shared.now source.now table.now) result (four edits shares unrefs releases) }
 {
     let from = source_list(own, list, source);
     let file = source_file(own, dst, src);

@@ -24,7 +24,7 @@ use item::Item;
 // The share of an item's copy as line n, if it is copied.
 fn put_copy_ref(c: Copying, item: Item, out: &mut [u64], n: usize) -> usize
     requires { InFiles c × (copy_sound c (fields item) ≡ true) × (n + 1 < 2 ^ 64) }
-    ensures { Laid ref_numbers 2 n (copy_share c (fields item)) (old out) result (new out) }
+    ensures { Laid ref_numbers 2 n (copy_share c (fields item)) out.old result out.new }
 {
     if !clone_items::is_copied(c, item) {
         return n;
@@ -36,7 +36,7 @@ fn put_copy_ref(c: Copying, item: Item, out: &mut [u64], n: usize) -> usize
 // The shares of all copies, in the source's order.
 pub fn put_copy_refs(c: Copying, source: &[u8], out: &mut [u64], n: usize) -> usize
     requires { Copyables c (items source.now) × (n + length (items source.now) < 2 ^ 64) }
-    ensures { Laid ref_numbers 2 n (map ref_of (clones c (items (old source)))) (old out) result (new out) }
+    ensures { Laid ref_numbers 2 n (map ref_of (clones c (items source.now))) out.old result out.new }
 {
     let mut m = n;
     for i in 0..source.len() / item::RECORD {
@@ -62,7 +62,7 @@ fn copy_bytes(c: Copying, item: Item) -> u64
 // The bytes of all copies.
 pub fn copied_bytes(c: Copying, source: &[u8]) -> u64
     requires { Copyables c (items source.now) × (counted_bytes (clones c (items source.now)) < 2 ^ 64) }
-    ensures { result ≡ counted_bytes (clones c (items (old source))) }
+    ensures { result ≡ counted_bytes (clones c (items source.now)) }
 {
     let mut sum: u64 = 0;
     for i in 0..source.len() / item::RECORD {
@@ -76,7 +76,7 @@ pub fn copied_bytes(c: Copying, source: &[u8]) -> u64
 // The first record, from k on, that is copied; the number of records where there is none.
 fn next_copied(c: Copying, source: &[u8], k: usize) -> usize
     requires { k ≤ length source.now / 70 }
-    ensures { Sought c (old source) k result }
+    ensures { Sought c source.now k result }
 {
     let n = source.len() / item::RECORD;
     for i in k..n {
@@ -89,7 +89,7 @@ fn next_copied(c: Copying, source: &[u8], k: usize) -> usize
 
 // Whether a key comes before all items left in the segment.
 fn is_leading(segment: &[u8], j: usize, key: u64) -> bool
-    ensures { result ≡ leads key (from (old segment) j) }
+    ensures { result ≡ leads key (from segment.now j) }
 {
     if j >= segment.len() / item::RECORD {
         return true;
@@ -101,7 +101,7 @@ fn is_leading(segment: &[u8], j: usize, key: u64) -> bool
 // Whether the next copy, of record k, comes before all items left in the segment.
 fn is_copy_first(c: Copying, source: &[u8], segment: &[u8], j: usize, k: usize) -> bool
     requires { Copyables c (items source.now) × Settled c source.now k }
-    ensures { result ≡ comes_first (clones c (from (old source) k)) (from (old segment) j) }
+    ensures { result ≡ comes_first (clones c (from source.now k)) (from segment.now j) }
 {
     if k >= source.len() / item::RECORD {
         return false;
@@ -113,7 +113,7 @@ fn is_copy_first(c: Copying, source: &[u8], segment: &[u8], j: usize, k: usize) 
 // The next new item: the next copy or the segment's next item, whichever has the lower key.
 fn next_new(c: Copying, source: &[u8], segment: &[u8], j: usize, k: usize) -> Next
     requires { Copyables c (items source.now) × (pairs rises (clones c (items source.now)) ≡ true) × (j ≤ length segment.now / 70) × Settled c source.now k }
-    ensures { IsNext c (old source) (old segment) j k result }
+    ensures { IsNext c source.now segment.now j k result }
 {
     if is_copy_first(c, source, segment, j, k) {
         let item = clone_items::clone_item(c, item::item_at(source, k));
@@ -138,7 +138,7 @@ fn step(
     out: &mut [u8],
 ) -> MergeCursor
     requires { Ready c source.now segment.now was.now at }
-    ensures { Stepped c (old source) (old segment) (old was) at (old out) result (new out) }
+    ensures { Stepped c source.now segment.now was.now at out.old result out.new }
 {
     let next = next_new(c, source, segment, at.j, at.k);
     let m = edit_merge::put_next(was, at.i, next.some, next.item, c.number, out, at.n);
@@ -151,7 +151,7 @@ pub fn put_copies(c: Copying, source: &[u8], segment: &[u8], was: &[u8], out: &m
     requires { Copyables c (items source.now) × (pairs rises (clones c (items source.now)) ≡ true) × (pairs rises (items was.now) ≡ true)
         × (pairs rises (items_of (together (clones c (items source.now)) (items segment.now))) ≡ true)
         × (length (items was.now) + length (items segment.now) + length (items source.now) < 2 ^ 64) }
-    ensures { Laid (edit_bytes c.number) 71 0 (edits (items (old was)) (together (clones c (items (old source))) (items (old segment)))) (old out) result (new out) }
+    ensures { Laid (edit_bytes c.number) 71 0 (edits (items was.now) (together (clones c (items source.now)) (items segment.now))) out.old result out.new }
 {
     let end = was.len() / item::RECORD
         + (segment.len() / item::RECORD + source.len() / item::RECORD);

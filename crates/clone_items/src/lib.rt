@@ -60,7 +60,7 @@ pub fn clone_item(c: Copying, item: Item) -> Item
 // Refusals 14, 17 and 15 of a copy: no row, a window outside its extent, keyed references.
 fn copy_refusal(table: &[u64], item: Item) -> u8
     requires { table_kept (rows table.now) ≡ true }
-    ensures { result ≡ copy_refusal (rows (old table)) (fields item) }
+    ensures { result ≡ copy_refusal (rows table.now) (fields item) }
 {
     let Found::At(_, row) = table::find_row(table, item.extent_start()) else {
         return refusal::NO_ROW;
@@ -75,7 +75,7 @@ fn copy_refusal(table: &[u64], item: Item) -> u8
 fn overlap_refusal(c: Copying, table: &[u64], item: Item) -> u8
     requires table_value { table_kept (rows table.now) ≡ true }
     requires copyable { Copyable c (fields item) }
-    ensures { result ≡ overlap_refusal (rows (old table)) c (fields item) }
+    ensures { result ≡ overlap_refusal (rows table.now) c (fields item) }
 {
     let encoded = unless(
         both(item.encryption() == 0, item.other() == 0),
@@ -92,7 +92,7 @@ fn overlap_refusal(c: Copying, table: &[u64], item: Item) -> u8
 fn source_record(c: Copying, table: &[u64], item: Item) -> u8
     requires table_value { table_kept (rows table.now) ≡ true }
     requires in_files { InFiles c × (range_kept (fields item) ≡ true) }
-    ensures { result ≡ source_record (rows (old table)) c (fields item) }
+    ensures { result ≡ source_record (rows table.now) c (fields item) }
 {
     let kind = item.kind();
     if kind == 0 {
@@ -111,7 +111,7 @@ fn source_record(c: Copying, table: &[u64], item: Item) -> u8
 pub fn source_records(c: Copying, table: &[u64], list: &[u8]) -> u8
     requires table_value { table_kept (rows table.now) ≡ true }
     requires in_files { InFiles c × (every range_kept (items list.now) ≡ true) }
-    ensures { result ≡ stage (source_record (rows (old table)) c) (items (old list)) }
+    ensures { result ≡ stage (source_record (rows table.now) c) (items list.now) }
 {
     for i in 0..list.len() / item::RECORD {
         let why = source_record(c, table, item::item_at(list, i));

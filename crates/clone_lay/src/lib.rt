@@ -36,7 +36,7 @@ pub fn cut_for(c: Copying) -> Cut
 // The shares of a plan: splits, then the copies.
 fn put_shares(c: Copying, k: Cut, list: &[u8], source: &[u8], out: &mut [u64]) -> usize
     requires { (k ≡ cut_for c) × Placing c (items list.now) (items source.now) }
-    ensures { Laid ref_numbers 2 0 (clone_splits c (items (old list)) ++ map ref_of (clones c (items (old source)))) (old out) result (new out) }
+    ensures { Laid ref_numbers 2 0 (clone_splits c (items list.now) ++ map ref_of (clones c (items source.now))) out.old result out.new }
 {
     let n = cut_touched::put_splits(k, list, out, 0);
     clone_copies::put_copy_refs(c, source, out, n)
@@ -54,7 +54,7 @@ fn lay_refs(
     releases: &mut [u64],
 ) -> RefCounts
     requires { Replacing c list.now shared.now source.now table.now }
-    ensures { RefsLaid (plan_for c (items (old list)) (old shared) (items (old source)) (rows (old table)) 0) result (old shares) (old unrefs) (old releases) (new shares) (new unrefs) (new releases) }
+    ensures { RefsLaid (plan_for c (items list.now) shared.now (items source.now) (rows table.now) 0) result shares.old unrefs.old releases.old shares.new unrefs.new releases.new }
 {
     let k = cut_for(c);
     RefCounts {
@@ -74,7 +74,7 @@ fn put_changes(
     out: &mut [u8],
 ) -> usize
     requires { Placing c (items list.now) (items source.now) × Cutting c.to (top c) list.now s seg.now }
-    ensures { Laid (edit_bytes c.number) 71 0 (editsOf (items (old list)) (pieces_now c (items (old list)) (items (old source)))) (old out) result (new out) }
+    ensures { Laid (edit_bytes c.number) 71 0 (editsOf (items list.now) (pieces_now c (items list.now) (items source.now))) out.old result out.new }
 {
     let from = s.from * item::RECORD;
     let to = s.to * item::RECORD;
@@ -85,7 +85,7 @@ fn put_changes(
 // The bytes that the file's items count after it.
 fn bytes_after(c: Copying, list: &[u8], source: &[u8], seg: &[u8], s: Segment) -> u64
     requires { Placing c (items list.now) (items source.now) × Cutting c.to (top c) list.now s seg.now }
-    ensures { result ≡ counted_bytes (items_of (pieces_now c (items (old list)) (items (old source)))) }
+    ensures { result ≡ counted_bytes (items_of (pieces_now c (items list.now) (items source.now))) }
 {
     change_lines::bytes_after(list, seg, s) + clone_copies::copied_bytes(c, source)
 }
@@ -93,7 +93,7 @@ fn bytes_after(c: Copying, list: &[u8], source: &[u8], seg: &[u8], s: Segment) -
 // The edits of a plan, and its byte count.
 fn lay_edits(c: Copying, list: &[u8], source: &[u8], edits: &mut [u8]) -> Edited
     requires { Placing c (items list.now) (items source.now) }
-    ensures { EditsLaid c.number (editsOf (items (old list)) (pieces_now c (items (old list)) (items (old source)))) (counted_bytes (items_of (pieces_now c (items (old list)) (items (old source))))) result (old edits) (new edits) }
+    ensures { EditsLaid c.number (editsOf (items list.now) (pieces_now c (items list.now) (items source.now))) (counted_bytes (items_of (pieces_now c (items list.now) (items source.now)))) result edits.old edits.new }
 {
     let mut seg = [0u8; 140];
     let s = cut_segment::cut_segment(list, c.to, c.to + c.span, &mut seg);
@@ -116,7 +116,7 @@ pub fn lay_clone(
     releases: &mut [u64],
 ) -> Counts
     requires { Replacing c list.now shared.now source.now table.now }
-    ensures { PlanLaidIn c.number (plan_for c (items (old list)) (old shared) (items (old source)) (rows (old table)) 0) (editsOf (items (old list)) (pieces_now c (items (old list)) (items (old source))))
+    ensures { PlanLaidIn c.number (plan_for c (items list.now) shared.now (items source.now) (rows table.now) 0) (editsOf (items list.now) (pieces_now c (items list.now) (items source.now)))
         result (four edits shares unrefs releases) }
 {
     let refs = lay_refs(c, list, shared, source, table, shares, unrefs, releases);

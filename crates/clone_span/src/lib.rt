@@ -97,7 +97,7 @@ fn destination_record(item: Item) -> u8
 
 // Refusals 7 and 8, record by record.
 pub fn destination_records(list: &[u8]) -> u8
-    ensures { result ≡ stage destination_record (items (old list)) }
+    ensures { result ≡ stage destination_record (items list.now) }
 {
     for i in 0..list.len() / item::RECORD {
         let why = destination_record(item::item_at(list, i));
@@ -111,7 +111,7 @@ pub fn destination_records(list: &[u8]) -> u8
 // Refusal 25: a destination that grows, has records and ends inside a sector.
 pub fn growth_refusal(sector: u64, size: u64, to: u64, length: u64, list: &[u8]) -> u8
     requires { 0 < sector }
-    ensures { result ≡ growth_refusal sector size to length (items (old list)) }
+    ensures { result ≡ growth_refusal sector size to length (items list.now) }
 {
     let within = sum_at_most(to, length, size);
     let ends = either(size % sector == 0, list.len() / item::RECORD == 0);

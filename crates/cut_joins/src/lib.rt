@@ -11,7 +11,7 @@ use cut_segment::{Segment, put_record, record_at, starting_by};
 // Record k of n taken away; those behind it move down.
 fn remove(seg: &mut [u8], k: usize, n: usize)
     requires { (k < n) × (n ≤ length (items seg.old)) }
-    ensures { take (n - 1) (items (new seg)) ≡ take k (items (old seg)) ++ drop (k + 1) (take n (items (old seg))) }
+    ensures { take (n - 1) (items seg.new) ≡ take k (items seg.old) ++ drop (k + 1) (take n (items seg.old)) }
 {
     for i in k..n - 1 {
         let next = record_at(seg, i + 1);
@@ -22,7 +22,7 @@ fn remove(seg: &mut [u8], k: usize, n: usize)
 // Record k of n joined with the next one, if they are joinable.
 fn join_within(seg: &mut [u8], k: usize, n: usize, generation: u64) -> usize
     requires { (k + 1 < n) × (n ≤ length (items seg.old)) × (every bounded (take n (items seg.old)) ≡ true) }
-    ensures { Within generation k n (old seg) result (new seg) }
+    ensures { Within generation k n seg.old result seg.new }
 {
     let front = record_at(seg, k);
     let behind = record_at(seg, k + 1);
@@ -37,7 +37,7 @@ fn join_within(seg: &mut [u8], k: usize, n: usize, generation: u64) -> usize
 // The last item of a segment joined with the list's record behind it.
 fn join_end(list: &[u8], seg: &mut [u8], s: Segment, generation: u64) -> Segment
     requires { Good list.now s seg.old × (0 < s.count) }
-    ensures { Behind generation (old list) s (old seg) (s.count - 1) result (new seg) }
+    ensures { Behind generation list.now s seg.old (s.count - 1) result seg.new }
 {
     if s.to == list.len() / item::RECORD {
         return s;
@@ -58,7 +58,7 @@ fn join_end(list: &[u8], seg: &mut [u8], s: Segment, generation: u64) -> Segment
 // Record k of a segment joined with what is behind it.
 fn join_behind(list: &[u8], seg: &mut [u8], s: Segment, k: usize, generation: u64) -> Segment
     requires { Good list.now s seg.old × (k < s.count) }
-    ensures { Behind generation (old list) s (old seg) k result (new seg) }
+    ensures { Behind generation list.now s seg.old k result seg.new }
 {
     if k + 1 == s.count {
         return join_end(list, seg, s, generation);
@@ -74,7 +74,7 @@ fn join_behind(list: &[u8], seg: &mut [u8], s: Segment, k: usize, generation: u6
 // The first item of a segment joined with the list's record before it.
 fn join_start(list: &[u8], seg: &mut [u8], s: Segment, generation: u64) -> Segment
     requires { Good list.now s seg.old × (0 < s.count) }
-    ensures { Before generation (old list) s (old seg) 0 result (new seg) }
+    ensures { Before generation list.now s seg.old 0 result seg.new }
 {
     if s.from == 0 {
         return s;
@@ -95,7 +95,7 @@ fn join_start(list: &[u8], seg: &mut [u8], s: Segment, generation: u64) -> Segme
 // Record k of a segment joined with what is before it.
 fn join_before(list: &[u8], seg: &mut [u8], s: Segment, k: usize, generation: u64) -> Segment
     requires { Good list.now s seg.old × (k < s.count) }
-    ensures { Before generation (old list) s (old seg) k result (new seg) }
+    ensures { Before generation list.now s seg.old k result seg.new }
 {
     if k == 0 {
         return join_start(list, seg, s, generation);
@@ -112,7 +112,7 @@ fn join_before(list: &[u8], seg: &mut [u8], s: Segment, k: usize, generation: u6
 // before it.
 pub fn join_around(list: &[u8], seg: &mut [u8], s: Segment, generation: u64, sector: u64) -> Segment
     requires { Good list.now s seg.old × Around sector list.now s × (0 < s.count) × ((item_at seg.old 0).key ≤ sector) }
-    ensures { Joining generation sector (old list) s (old seg) result (new seg) }
+    ensures { Joining generation sector list.now s seg.old result seg.new }
 {
     let k = starting_by(seg, 0, s.count, sector) - 1;
     let t = join_behind(list, seg, s, k, generation);

@@ -30,7 +30,7 @@ pub struct RecordRange {
 // Record n of a list.
 pub fn record_at(list: &[u8], n: usize) -> Item
     requires { n < length (items list.now) }
-    ensures { fields result ≡ item_at (old list) n }
+    ensures { fields result ≡ item_at list.now n }
 {
     item::item_at(list, n)
 }
@@ -38,7 +38,7 @@ pub fn record_at(list: &[u8], n: usize) -> Item
 // An item as record n of a buffer.
 pub fn put_record(seg: &mut [u8], n: usize, item: Item)
     requires { n < length (items seg.old) }
-    ensures { items (new seg) ≡ set (items (old seg)) n (fields item) }
+    ensures { items seg.new ≡ set (items seg.old) n (fields item) }
 {
     item::put_item(seg, n * item::RECORD, item);
 }
@@ -46,7 +46,7 @@ pub fn put_record(seg: &mut [u8], n: usize, item: Item)
 // One item behind the n records of a buffer.
 fn append(seg: &mut [u8], n: usize, item: Item) -> usize
     requires { n < length (items seg.old) }
-    ensures { Added n (fields item ∷ []) (old seg) result (new seg) }
+    ensures { Added n (fields item ∷ []) seg.old result seg.new }
 {
     put_record(seg, n, item);
     n + 1
@@ -79,7 +79,7 @@ pub fn back_of(hi: u64, item: Item) -> Item
 // An item's front behind the n records of a buffer, if it starts before lo.
 fn put_front(seg: &mut [u8], n: usize, lo: u64, item: Item) -> usize
     requires { (n < length (items seg.old)) × (end (fields item) < 2 ^ 64) }
-    ensures { Added n (only (ltb (fields item).key lo) (front lo (fields item))) (old seg) result (new seg) }
+    ensures { Added n (only (ltb (fields item).key lo) (front lo (fields item))) seg.old result seg.new }
 {
     if item.key >= lo {
         return n;
@@ -90,7 +90,7 @@ fn put_front(seg: &mut [u8], n: usize, lo: u64, item: Item) -> usize
 // Its back, if it ends past hi.
 fn put_back(seg: &mut [u8], n: usize, hi: u64, item: Item) -> usize
     requires { (n < length (items seg.old)) × (end (fields item) < 2 ^ 64) × ((fields item).position + (fields item).length < 2 ^ 64) }
-    ensures { Added n (only (ltb hi (end (fields item))) (back hi (fields item))) (old seg) result (new seg) }
+    ensures { Added n (only (ltb hi (end (fields item))) (back hi (fields item))) seg.old result seg.new }
 {
     if !sum_past(item.key, item.length(), hi) {
         return n;
@@ -101,7 +101,7 @@ fn put_back(seg: &mut [u8], n: usize, hi: u64, item: Item) -> usize
 // How many records of a list end at most at lo: by halves, as those that do lead.
 pub fn ending_by(list: &[u8], lo: u64) -> usize
     requires { Runs 0 (items list.now) }
-    ensures { result ≡ leading (ends_by lo) (items (old list)) }
+    ensures { result ≡ leading (ends_by lo) (items list.now) }
 {
     let mut low = 0;
     let mut high = list.len() / item::RECORD;
@@ -120,7 +120,7 @@ pub fn ending_by(list: &[u8], lo: u64) -> usize
 // How many start at most at a key, by halves too.
 fn started_by(list: &[u8], key: u64) -> usize
     requires { Runs 0 (items list.now) }
-    ensures { result ≡ leading (starts_by key) (items (old list)) }
+    ensures { result ≡ leading (starts_by key) (items list.now) }
 {
     let mut low = 0;
     let mut high = list.len() / item::RECORD;
@@ -139,7 +139,7 @@ fn started_by(list: &[u8], key: u64) -> usize
 // The number of the first of n records, from `start` on, that starts past a key; n where there is none.
 pub fn starting_by(list: &[u8], start: usize, n: usize, key: u64) -> usize
     requires { (start ≤ n) × (n ≤ length (items list.now)) }
-    ensures { result ≡ start + leading (starts_by key) (drop start (take n (items (old list)))) }
+    ensures { result ≡ start + leading (starts_by key) (drop start (take n (items list.now))) }
 {
     for i in start..n {
         let item = record_at(list, i);
@@ -153,7 +153,7 @@ pub fn starting_by(list: &[u8], start: usize, n: usize, key: u64) -> usize
 // The records that [lo, hi) touches stand one behind the other.
 pub fn touched(list: &[u8], lo: u64, hi: u64) -> RecordRange
     requires { Runs 0 (items list.now) }
-    ensures { Touching lo hi (items (old list)) result }
+    ensures { Touching lo hi (items list.now) result }
 {
     if hi <= lo {
         return RecordRange { from: 0, to: 0 };
@@ -166,7 +166,7 @@ pub fn touched(list: &[u8], lo: u64, hi: u64) -> RecordRange
 // [lo, hi) taken out of a list: the records that it touches make way for the first one's front and the last one's back.
 pub fn cut_segment(list: &[u8], lo: u64, hi: u64, seg: &mut [u8]) -> Segment
     requires { Runs 0 (items list.now) × (140 ≤ length seg.old) }
-    ensures { Cutting lo hi (old list) result (new seg) }
+    ensures { Cutting lo hi list.now result seg.new }
 {
     if hi <= lo {
         return Segment {
@@ -191,7 +191,7 @@ pub fn cut_segment(list: &[u8], lo: u64, hi: u64, seg: &mut [u8]) -> Segment
 // An item in front of record k of n, which moves up with those behind it.
 fn slide(seg: &mut [u8], k: usize, n: usize, item: Item)
     requires { (k ≤ n) × (n < length (items seg.old)) }
-    ensures { take (n + 1) (items (new seg)) ≡ take k (items (old seg)) ++ fields item ∷ drop k (take n (items (old seg))) }
+    ensures { take (n + 1) (items seg.new) ≡ take k (items seg.old) ++ fields item ∷ drop k (take n (items seg.old)) }
 {
     let mut carried = item;
     for i in k..n {
@@ -205,7 +205,7 @@ fn slide(seg: &mut [u8], k: usize, n: usize, item: Item)
 // An item put among a segment's, at its key.
 pub fn insert_item(seg: &mut [u8], s: Segment, item: Item) -> Segment
     requires { (s.count + 1) * 70 ≤ length seg.old }
-    ensures { Inserted (fields item) s (old seg) result (new seg) }
+    ensures { Inserted (fields item) s seg.old result seg.new }
 {
     let k = starting_by(seg, 0, s.count, item.key);
     slide(seg, k, s.count, item);

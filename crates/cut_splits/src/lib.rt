@@ -20,7 +20,7 @@ use records::{both, either};
 // The refusal of one more reference to an item's extent, if the cut of [lo, hi) splits it.
 fn split_refusal(table: &[u64], lo: u64, hi: u64, item: Item) -> u8
     requires { table_kept (rows table.now) ≡ true }
-    ensures { result ≡ split_refusal lo hi (rows (old table)) (fields item) }
+    ensures { result ≡ split_refusal lo hi (rows table.now) (fields item) }
 {
     if cut_def::is_split(lo, hi, item) {
         table::one_more_reference(table, item.extent_start())
@@ -32,7 +32,7 @@ fn split_refusal(table: &[u64], lo: u64, hi: u64, item: Item) -> u8
 // The first refusal of a split's share, in the list's order.
 pub fn splits_refusal(list: &[u8], table: &[u64], lo: u64, hi: u64) -> u8
     requires { table_kept (rows table.now) ≡ true }
-    ensures { result ≡ stage (λ (q : Ref). one_more_reference q.start (rows (old table))) (map ref_of (keep (split lo hi) (items (old list)))) }
+    ensures { result ≡ stage (λ (q : Ref). one_more_reference q.start (rows table.now)) (map ref_of (keep (split lo hi) (items list.now))) }
 {
     let n = list.len() / item::RECORD;
     for i in 0..n {
@@ -57,7 +57,7 @@ fn is_shared(item: Item, lo: u64, hi: u64, one: u64, two: u64) -> bool
 
 fn put_split(item: Item, lo: u64, hi: u64, one: u64, two: u64, out: &mut [u64], n: usize) -> usize
     requires { n + 1 < 2 ^ 64 }
-    ensures { Laid ref_numbers 2 n (split_share lo hi one two (fields item)) (old out) result (new out) }
+    ensures { Laid ref_numbers 2 n (split_share lo hi one two (fields item)) out.old result out.new }
 {
     if is_shared(item, lo, hi, one, two) {
         plan_lines::put_ref(out, n, item.extent_start(), item.reference())
@@ -77,7 +77,7 @@ pub fn put_splits(
     n: usize,
 ) -> usize
     requires { n + length (items list.now) < 2 ^ 64 }
-    ensures { Laid ref_numbers 2 n (keep (elsewhere (one ∷ two ∷ [])) (map ref_of (keep (split lo hi) (items (old list))))) (old out) result (new out) }
+    ensures { Laid ref_numbers 2 n (keep (elsewhere (one ∷ two ∷ [])) (map ref_of (keep (split lo hi) (items list.now)))) out.old result out.new }
 {
     let k = list.len() / item::RECORD;
     let mut m = n;
@@ -102,7 +102,7 @@ fn counted(item: Item) -> u64
 // The lengths of the items that are no holes.
 pub fn counted_bytes(list: &[u8]) -> u64
     requires { counted_bytes (items list.now) < 2 ^ 64 }
-    ensures { result ≡ counted_bytes (items (old list)) }
+    ensures { result ≡ counted_bytes (items list.now) }
 {
     let n = list.len() / item::RECORD;
     let mut sum: u64 = 0;

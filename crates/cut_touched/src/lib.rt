@@ -19,7 +19,7 @@ use drop_lines::Cut;
 // `cut_splits::splits_refusal` of a list whose records run one behind the other.
 pub fn splits_refusal(list: &[u8], table: &[u64], lo: u64, hi: u64) -> u8
     requires { (table_kept (rows table.now) ≡ true) × Runs 0 (items list.now) }
-    ensures { result ≡ stage (λ (q : Ref). one_more_reference q.start (rows (old table))) (map ref_of (keep (split lo hi) (items (old list)))) }
+    ensures { result ≡ stage (λ (q : Ref). one_more_reference q.start (rows table.now)) (map ref_of (keep (split lo hi) (items list.now))) }
 {
     let t = cut_segment::touched(list, lo, hi);
     let a = t.from * item::RECORD;
@@ -30,7 +30,7 @@ pub fn splits_refusal(list: &[u8], table: &[u64], lo: u64, hi: u64) -> u8
 // `cut_splits::put_splits` of such a list.
 pub fn put_splits(k: Cut, list: &[u8], out: &mut [u64], n: usize) -> usize
     requires { (n + length (items list.now) < 2 ^ 64) × Runs 0 (items list.now) }
-    ensures { Laid ref_numbers 2 n (keep (elsewhere (k.one ∷ k.two ∷ [])) (map ref_of (keep (split k.lo k.hi) (items (old list))))) (old out) result (new out) }
+    ensures { Laid ref_numbers 2 n (keep (elsewhere (k.one ∷ k.two ∷ [])) (map ref_of (keep (split k.lo k.hi) (items list.now)))) out.old result out.new }
 {
     let t = cut_segment::touched(list, k.lo, k.hi);
     let a = t.from * item::RECORD;
@@ -41,7 +41,7 @@ pub fn put_splits(k: Cut, list: &[u8], out: &mut [u64], n: usize) -> usize
 // `drop_lines::drops_refusal` of such a list.
 pub fn drops_refusal(k: Cut, list: &[u8], table: &[u64]) -> u8
     requires { (table_kept (rows table.now) ≡ true) × Runs 0 (items list.now) }
-    ensures { (bs : List ℕ) → length bs ≡ length (items (old list)) → result ≡ drops_refusal (rows (old table)) (drops_in k (items (old list)) bs) }
+    ensures { (bs : List ℕ) → length bs ≡ length (items list.now) → result ≡ drops_refusal (rows table.now) (drops_in k (items list.now) bs) }
 {
     let t = cut_segment::touched(list, k.lo, k.hi);
     let a = t.from * item::RECORD;
@@ -60,7 +60,7 @@ pub fn put_drops(
     n: usize,
 ) -> usize
     requires { (table_kept (rows table.now) ≡ true) × (length shared.now ≡ length (items list.now)) × (n + length (items list.now) < 2 ^ 64) × Runs 0 (items list.now) }
-    ensures { Laid ref_numbers 2 n (cond release (releases (rows (old table)) (drops_in k (items (old list)) (old shared))) (unrefs (rows (old table)) (drops_in k (items (old list)) (old shared)))) (old out) result (new out) }
+    ensures { Laid ref_numbers 2 n (cond release (releases (rows table.now) (drops_in k (items list.now) shared.now)) (unrefs (rows table.now) (drops_in k (items list.now) shared.now))) out.old result out.new }
 {
     let t = cut_segment::touched(list, k.lo, k.hi);
     let from = t.from;

@@ -34,7 +34,7 @@ pub fn is_asked(release: bool, released: bool) -> bool
 fn is_freed(references: u64, list: &[u8], shared: &[u8], nexts: &[u32], head: usize) -> bool
     requires shared_len { length shared.now ≡ length (items list.now) }
     requires chain { (p : InLeaf → Bool) × Chain p (in_leaves (items list.now) shared.now) nexts.now head }
-    ensures { (p : InLeaf → Bool) → Chain p (in_leaves (items (old list)) (old shared)) (old nexts) head → result ≡ freed references (keep p (in_leaves (items (old list)) (old shared))) }
+    ensures { (p : InLeaf → Bool) → Chain p (in_leaves (items list.now) shared.now) nexts.now head → result ≡ freed references (keep p (in_leaves (items list.now) shared.now)) }
 {
     let mut at = 0;
     let mut h = head;
@@ -52,7 +52,7 @@ fn is_freed(references: u64, list: &[u8], shared: &[u8], nexts: &[u32], head: us
 // The line of a drop.
 fn put_drop(item: Item, out: &mut [u64], n: usize) -> usize
     requires { n + 1 < 2 ^ 64 }
-    ensures { Laid ref_numbers 2 n (ref_of (fields item) ∷ []) (old out) result (new out) }
+    ensures { Laid ref_numbers 2 n (ref_of (fields item) ∷ []) out.old result out.new }
 {
     let start = item.extent_start();
     let offset = item.reference();
@@ -70,7 +70,7 @@ fn put_all(
 ) -> usize
     requires shared_len { length shared.now ≡ length (items list.now) }
     requires chain { (p : InLeaf → Bool) × Chain p (in_leaves (items list.now) shared.now) nexts.now head × (n + length (keep p (in_leaves (items list.now) shared.now)) < 2 ^ 64) }
-    ensures { (p : InLeaf → Bool) → Chain p (in_leaves (items (old list)) (old shared)) (old nexts) head → Laid ref_numbers 2 n (map line_in (keep p (in_leaves (items (old list)) (old shared)))) (old out) result (new out) }
+    ensures { (p : InLeaf → Bool) → Chain p (in_leaves (items list.now) shared.now) nexts.now head → Laid ref_numbers 2 n (map line_in (keep p (in_leaves (items list.now) shared.now))) out.old result out.new }
 {
     let mut at = 0;
     let mut h = head;
@@ -96,8 +96,8 @@ pub fn put_chain(
 ) -> usize
     requires shared_len { length shared.now ≡ length (items list.now) }
     requires chain { (p : InLeaf → Bool) × Chain p (in_leaves (items list.now) shared.now) nexts.now head × (n + length (chain_lines release references (keep p (in_leaves (items list.now) shared.now))) < 2 ^ 64) }
-    ensures { (p : InLeaf → Bool) → Chain p (in_leaves (items (old list)) (old shared)) (old nexts) head
-        → Laid ref_numbers 2 n (chain_lines release references (keep p (in_leaves (items (old list)) (old shared)))) (old out) result (new out) }
+    ensures { (p : InLeaf → Bool) → Chain p (in_leaves (items list.now) shared.now) nexts.now head
+        → Laid ref_numbers 2 n (chain_lines release references (keep p (in_leaves (items list.now) shared.now))) out.old result out.new }
 {
     if head == 0 {
         return n;
@@ -142,8 +142,8 @@ pub fn link_item(
     requires table_value { table_kept (rows table.now) ≡ true }
     requires shared_len { (length shared.now ≡ length (items list.now)) × (i < length list.now / 70) }
     requires linked { (p : Fields → Bool) × Linked p (rows table.now) (in_leaves (items list.now) shared.now) (i + 1) heads.old nexts.old range }
-    ensures { (p : Fields → Bool) → dropped ≡ p (decode (drop (i * 70) (old list))) → Linked p (rows (old table)) (in_leaves (items (old list)) (old shared)) (i + 1) (old heads) (old nexts) range
-        → Linked p (rows (old table)) (in_leaves (items (old list)) (old shared)) i (new heads) (new nexts) result }
+    ensures { (p : Fields → Bool) → dropped ≡ p (decode (drop (i * 70) list.now)) → Linked p (rows table.now) (in_leaves (items list.now) shared.now) (i + 1) heads.old nexts.old range
+        → Linked p (rows table.now) (in_leaves (items list.now) shared.now) i heads.new nexts.new result }
 {
     if !dropped {
         return range;
@@ -172,8 +172,8 @@ pub fn put_rows(
     requires shared_len { length shared.now ≡ length (items list.now) }
     requires linked { (p : Fields → Bool) × Linked p (rows table.now) (in_leaves (items list.now) shared.now) 0 heads.now nexts.now range
         × (n + length (cond release (releases (rows table.now) (drops_by p (in_leaves (items list.now) shared.now))) (unrefs (rows table.now) (drops_by p (in_leaves (items list.now) shared.now)))) < 2 ^ 64) }
-    ensures { (p : Fields → Bool) → Linked p (rows (old table)) (in_leaves (items (old list)) (old shared)) 0 (old heads) (old nexts) range
-        → Laid ref_numbers 2 n (cond release (releases (rows (old table)) (drops_by p (in_leaves (items (old list)) (old shared)))) (unrefs (rows (old table)) (drops_by p (in_leaves (items (old list)) (old shared))))) (old out) result (new out) }
+    ensures { (p : Fields → Bool) → Linked p (rows table.now) (in_leaves (items list.now) shared.now) 0 heads.now nexts.now range
+        → Laid ref_numbers 2 n (cond release (releases (rows table.now) (drops_by p (in_leaves (items list.now) shared.now))) (unrefs (rows table.now) (drops_by p (in_leaves (items list.now) shared.now)))) out.old result out.new }
 {
     let mut at = n;
     let from = range.from;

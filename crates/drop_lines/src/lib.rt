@@ -50,7 +50,7 @@ fn is_dropped(c: Cut, item: Item) -> bool
 // Refusals 14 and 17 of one drop.
 fn drop_refusal(table: &[u64], item: Item) -> u8
     requires { table_kept (rows table.now) ≡ true }
-    ensures { result ≡ drop_refusal (rows (old table)) (fields item) }
+    ensures { result ≡ drop_refusal (rows table.now) (fields item) }
 {
     let Found::At(_, row) = table::find_row(table, item.extent_start()) else {
         return refusal::NO_ROW;
@@ -61,7 +61,7 @@ fn drop_refusal(table: &[u64], item: Item) -> u8
 // What is due for one item.
 fn item_due(c: Cut, table: &[u64], item: Item) -> Refused
     requires { table_kept (rows table.now) ≡ true }
-    ensures { due result ≡ item_due c (rows (old table)) (fields item) }
+    ensures { due result ≡ item_due c (rows table.now) (fields item) }
 {
     if is_dropped(c, item) {
         return Refused {
@@ -91,7 +91,7 @@ fn earlier(a: Refused, b: Refused) -> Refused
 // Refusals 14 and 17 of the drops, by extent start. The shared bytes do not count.
 pub fn drops_refusal(c: Cut, list: &[u8], table: &[u64]) -> u8
     requires { table_kept (rows table.now) ≡ true }
-    ensures { (bs : List ℕ) → length bs ≡ length (items (old list)) → result ≡ drops_refusal (rows (old table)) (drops_in c (items (old list)) bs) }
+    ensures { (bs : List ℕ) → length bs ≡ length (items list.now) → result ≡ drops_refusal (rows table.now) (drops_in c (items list.now) bs) }
 {
     let n = list.len() / item::RECORD;
     let mut why = Refused {
@@ -124,7 +124,7 @@ fn one_if(b: bool) -> u64
 // Whether an extent is released: all its references are drops, and none of their leaves is shared.
 pub fn is_released(c: Cut, list: &[u8], shared: &[u8], row: Row) -> bool
     requires { length shared.now ≡ length (items list.now) }
-    ensures { result ≡ released (drops_in c (items (old list)) (old shared)) row }
+    ensures { result ≡ released (drops_in c (items list.now) shared.now) row }
 {
     let n = list.len() / item::RECORD;
     let start = row.start;
@@ -141,7 +141,7 @@ pub fn is_released(c: Cut, list: &[u8], shared: &[u8], row: Row) -> bool
 // The line of one item, if it is a drop of the extent at `start`.
 fn put_line(c: Cut, start: u64, item: Item, out: &mut [u64], n: usize) -> usize
     requires { n + length (line_of c start (fields item)) < 2 ^ 64 }
-    ensures { Laid ref_numbers 2 n (line_of c start (fields item)) (old out) result (new out) }
+    ensures { Laid ref_numbers 2 n (line_of c start (fields item)) out.old result out.new }
 {
     if is_drop_of(c, start, item) {
         let offset = item.reference();
@@ -153,7 +153,7 @@ fn put_line(c: Cut, start: u64, item: Item, out: &mut [u64], n: usize) -> usize
 // A line for each drop of the extent at `start`, in list order.
 fn put_lines(c: Cut, start: u64, list: &[u8], out: &mut [u64], n: usize) -> usize
     requires { n + length (flat_map (line_of c start) (items list.now)) < 2 ^ 64 }
-    ensures { Laid ref_numbers 2 n (flat_map (line_of c start) (items (old list))) (old out) result (new out) }
+    ensures { Laid ref_numbers 2 n (flat_map (line_of c start) (items list.now)) out.old result out.new }
 {
     let mut at = n;
     for i in 0..list.len() / item::RECORD {
@@ -174,7 +174,7 @@ fn put_row(
 ) -> usize
     requires shared_len { length shared.now ≡ length (items list.now) }
     requires row_bound { n + length (row_lines release (drops_in c (items list.now) shared.now) row) < 2 ^ 64 }
-    ensures { Laid ref_numbers 2 n (row_lines release (drops_in c (items (old list)) (old shared)) row) (old out) result (new out) }
+    ensures { Laid ref_numbers 2 n (row_lines release (drops_in c (items list.now) shared.now) row) out.old result out.new }
 {
     if drop_chains::is_asked(release, is_released(c, list, shared, row)) {
         return put_lines(c, row.start, list, out, n);
@@ -195,7 +195,7 @@ fn put_plain(
     requires table_value { table_kept (rows table.now) ≡ true }
     requires shared_len { length shared.now ≡ length (items list.now) }
     requires list_bound { n + length (items list.now) < 2 ^ 64 }
-    ensures { Laid ref_numbers 2 n (cond release (releases (rows (old table)) (drops_in c (items (old list)) (old shared))) (unrefs (rows (old table)) (drops_in c (items (old list)) (old shared)))) (old out) result (new out) }
+    ensures { Laid ref_numbers 2 n (cond release (releases (rows table.now) (drops_in c (items list.now) shared.now)) (unrefs (rows table.now) (drops_in c (items list.now) shared.now))) out.old result out.new }
 {
     let mut at = n;
     for i in 0..table.len() / 5 {
@@ -219,7 +219,7 @@ fn link(
     requires table_value { table_kept (rows table.now) ≡ true }
     requires shared_len { length shared.now ≡ length (items list.now) }
     requires blank { Blank (rows table.now) (in_leaves (items list.now) shared.now) heads.old nexts.old }
-    ensures { Linked (taken c) (rows (old table)) (in_leaves (items (old list)) (old shared)) 0 (new heads) (new nexts) result }
+    ensures { Linked (taken c) (rows table.now) (in_leaves (items list.now) shared.now) 0 heads.new nexts.new result }
 {
     let mut i = list.len() / item::RECORD;
     let mut span = RowRange {
@@ -250,7 +250,7 @@ fn put_linked(
     requires shared_len { length shared.now ≡ length (items list.now) }
     requires list_bound { n + length (items list.now) < 2 ^ 64 }
     requires blank { Blank (rows table.now) (in_leaves (items list.now) shared.now) heads.old nexts.old }
-    ensures { Laid ref_numbers 2 n (cond release (releases (rows (old table)) (drops_in c (items (old list)) (old shared))) (unrefs (rows (old table)) (drops_in c (items (old list)) (old shared)))) (old out) result (new out) }
+    ensures { Laid ref_numbers 2 n (cond release (releases (rows table.now) (drops_in c (items list.now) shared.now)) (unrefs (rows table.now) (drops_in c (items list.now) shared.now))) out.old result out.new }
 {
     let span = link(c, list, shared, table, heads, nexts);
     drop_chains::put_rows(release, list, shared, table, heads, nexts, span, out, n)
@@ -270,7 +270,7 @@ fn put_few(
     requires shared_len { length shared.now ≡ length (items list.now) }
     requires list_bound { n + length (items list.now) < 2 ^ 64 }
     requires table_len_bound { (length table.now / 5 ≤ 64) × (length list.now / 70 ≤ 64) }
-    ensures { Laid ref_numbers 2 n (cond release (releases (rows (old table)) (drops_in c (items (old list)) (old shared))) (unrefs (rows (old table)) (drops_in c (items (old list)) (old shared)))) (old out) result (new out) }
+    ensures { Laid ref_numbers 2 n (cond release (releases (rows table.now) (drops_in c (items list.now) shared.now)) (unrefs (rows table.now) (drops_in c (items list.now) shared.now))) out.old result out.new }
 {
     let mut heads = [0u32; 64];
     let mut nexts = [0u32; 64];
@@ -293,7 +293,7 @@ fn put_some(
     requires shared_len { length shared.now ≡ length (items list.now) }
     requires list_bound { n + length (items list.now) < 2 ^ 64 }
     requires table_len_bound { (length table.now / 5 ≤ 1024) × (length list.now / 70 ≤ 1024) }
-    ensures { Laid ref_numbers 2 n (cond release (releases (rows (old table)) (drops_in c (items (old list)) (old shared))) (unrefs (rows (old table)) (drops_in c (items (old list)) (old shared)))) (old out) result (new out) }
+    ensures { Laid ref_numbers 2 n (cond release (releases (rows table.now) (drops_in c (items list.now) shared.now)) (unrefs (rows table.now) (drops_in c (items list.now) shared.now))) out.old result out.new }
 {
     let mut heads = [0u32; 1024];
     let mut nexts = [0u32; 1024];
@@ -317,7 +317,7 @@ fn put_many(
     requires shared_len { length shared.now ≡ length (items list.now) }
     requires list_bound { n + length (items list.now) < 2 ^ 64 }
     requires table_len_bound { (length table.now / 5 ≤ 65536) × (length list.now / 70 ≤ 65536) }
-    ensures { Laid ref_numbers 2 n (cond release (releases (rows (old table)) (drops_in c (items (old list)) (old shared))) (unrefs (rows (old table)) (drops_in c (items (old list)) (old shared)))) (old out) result (new out) }
+    ensures { Laid ref_numbers 2 n (cond release (releases (rows table.now) (drops_in c (items list.now) shared.now)) (unrefs (rows table.now) (drops_in c (items list.now) shared.now))) out.old result out.new }
 {
     let mut heads = [0u32; 65536];
     let mut nexts = [0u32; 65536];
@@ -343,7 +343,7 @@ pub fn put_drops(
     requires table_value { table_kept (rows table.now) ≡ true }
     requires shared_len { length shared.now ≡ length (items list.now) }
     requires list_bound { n + length (items list.now) < 2 ^ 64 }
-    ensures { Laid ref_numbers 2 n (cond release (releases (rows (old table)) (drops_in c (items (old list)) (old shared))) (unrefs (rows (old table)) (drops_in c (items (old list)) (old shared)))) (old out) result (new out) }
+    ensures { Laid ref_numbers 2 n (cond release (releases (rows table.now) (drops_in c (items list.now) shared.now)) (unrefs (rows table.now) (drops_in c (items list.now) shared.now))) out.old result out.new }
 {
     let most = records::upper(table.len() / 5, list.len() / item::RECORD);
     if most <= 64 {

@@ -21,7 +21,7 @@ use item::Item;
 // Piece k as an item: the preallocated one over the whole of a new extent.
 fn piece_at(pieces: &[u64], k: usize, file: u64, generation: u64) -> Item
     requires { k * 3 + 3 ≤ length pieces.now }
-    ensures { fields result ≡ piece_item file generation (add_in (drop (k * 3) (old pieces))) }
+    ensures { fields result ≡ piece_item file generation (add_in (drop (k * 3) pieces.now)) }
 {
     let at = k * 3;
     let i = Item::regular_extent_item(file, pieces[at + 2], generation, pieces[at], pieces[at + 1]);
@@ -30,7 +30,7 @@ fn piece_at(pieces: &[u64], k: usize, file: u64, generation: u64) -> Item
 
 // Whether the next piece comes before all items left in the segment.
 fn is_piece(segment: &[u8], pieces: &[u64], j: usize, k: usize) -> bool
-    ensures { result ≡ piece_first (from (old segment) j) (drop k (adds_in (old pieces))) }
+    ensures { result ≡ piece_first (from segment.now j) (drop k (adds_in pieces.now)) }
 {
     if k >= pieces.len() / 3 {
         return false;
@@ -45,7 +45,7 @@ fn is_piece(segment: &[u8], pieces: &[u64], j: usize, k: usize) -> bool
 // The next piece or the segment's next item, whichever has the lower key.
 fn next_new(segment: &[u8], pieces: &[u64], file: u64, generation: u64, j: usize, k: usize) -> Next
     requires { (pairs rises (piece_items file generation pieces.now) ≡ true) × (j ≤ length segment.now / 70) × (k ≤ length pieces.now / 3) }
-    ensures { IsNext file generation (old segment) (old pieces) j k result }
+    ensures { IsNext file generation segment.now pieces.now j k result }
 {
     if is_piece(segment, pieces, j, k) {
         let item = piece_at(pieces, k, file, generation);
@@ -72,7 +72,7 @@ fn step(
     out: &mut [u8],
 ) -> MergeCursor
     requires { Ready file generation segment.now pieces.now was.now at }
-    ensures { Stepped file generation (old segment) (old pieces) (old was) at (old out) result (new out) }
+    ensures { Stepped file generation segment.now pieces.now was.now at out.old result out.new }
 {
     let next = next_new(segment, pieces, file, generation, at.j, at.k);
     let m = edit_merge::put_next(was, at.i, next.some, next.item, file, out, at.n);
@@ -94,7 +94,7 @@ pub fn put_edits(
         × (pairs rises (items_of (insert_all (piece_items file generation pieces.now) (map built (items segment.now)))) ≡ true)
         × (pairs rises (piece_items file generation pieces.now) ≡ true)
         × (n + length (items was.now) + length (items segment.now) + length pieces.now / 3 < 2 ^ 64) }
-    ensures { Laid (edit_bytes file) 71 n (edits (items (old was)) (insert_all (piece_items file generation (old pieces)) (map built (items (old segment))))) (old out) result (new out) }
+    ensures { Laid (edit_bytes file) 71 n (edits (items was.now) (insert_all (piece_items file generation pieces.now) (map built (items segment.now)))) out.old result out.new }
 {
     let end = was.len() / item::RECORD + (segment.len() / item::RECORD + pieces.len() / 3);
     let mut at = MergeCursor {

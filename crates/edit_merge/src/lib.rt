@@ -17,7 +17,7 @@ use records::either;
 // An edit's 71 bytes over out, from `at`: a tag and a record.
 fn put_tagged(out: &mut [u8], at: usize, tag: u8, item: Item)
     requires { at + 71 ≤ length out.old }
-    ensures { new out ≡ put_over (tag ∷ encode (fields item)) at (old out) }
+    ensures { out.new ≡ put_over (tag ∷ encode (fields item)) at out.old }
 {
     out[at] = tag;
     item::put_item(out, at + 1, item);
@@ -26,7 +26,7 @@ fn put_tagged(out: &mut [u8], at: usize, tag: u8, item: Item)
 // The same as line n.
 fn put_edit(out: &mut [u8], n: usize, tag: u8, item: Item) -> usize
     requires { n + 1 < 2 ^ 64 }
-    ensures { Laid (λ (bytes : List ℕ). bytes) 71 n ((tag ∷ encode (fields item)) ∷ []) (old out) result (new out) }
+    ensures { Laid (λ (bytes : List ℕ). bytes) 71 n ((tag ∷ encode (fields item)) ∷ []) out.old result out.new }
 {
     if n >= out.len() / item::EDIT {
         return n + 1;
@@ -38,7 +38,7 @@ fn put_edit(out: &mut [u8], n: usize, tag: u8, item: Item) -> usize
 // The edit that puts an item, as line n.
 fn put_put(out: &mut [u8], n: usize, item: Item) -> usize
     requires { n + 1 < 2 ^ 64 }
-    ensures { (file : ℕ) → Laid (edit_bytes file) 71 n (put (fields item) ∷ []) (old out) result (new out) }
+    ensures { (file : ℕ) → Laid (edit_bytes file) 71 n (put (fields item) ∷ []) out.old result out.new }
 {
     put_edit(out, n, 1, item)
 }
@@ -58,7 +58,7 @@ fn without_data(file: u64, key: u64) -> Item
 // The edit that deletes a file's key, as line n.
 fn put_delete(out: &mut [u8], n: usize, file: u64, key: u64) -> usize
     requires { n + 1 < 2 ^ 64 }
-    ensures { Laid (edit_bytes file) 71 n (delete key ∷ []) (old out) result (new out) }
+    ensures { Laid (edit_bytes file) 71 n (delete key ∷ []) out.old result out.new }
 {
     put_edit(out, n, 2, without_data(file, key))
 }
@@ -67,7 +67,7 @@ fn put_delete(out: &mut [u8], n: usize, file: u64, key: u64) -> usize
 
 // Whether the old list's next key comes before the next new one, if there is one.
 pub fn is_gone(was: &[u8], i: usize, some: bool, key: u64) -> bool
-    ensures { result ≡ gone some key (from (old was) i) }
+    ensures { result ≡ gone some key (from was.now i) }
 {
     if i >= was.len() / item::RECORD {
         return false;
@@ -79,7 +79,7 @@ pub fn is_gone(was: &[u8], i: usize, some: bool, key: u64) -> bool
 // The old list's next item behind a key that is put: one more than i where i has that key.
 pub fn passed(was: &[u8], i: usize, key: u64) -> usize
     requires { i ≤ length was.now / 70 }
-    ensures { (from (old was) result ≡ behind key (from (old was) i)) × (i ≤ result) × (result ≤ length (old was) / 70) }
+    ensures { (from was.now result ≡ behind key (from was.now i)) × (i ≤ result) × (result ≤ length was.now / 70) }
 {
     if i >= was.len() / item::RECORD {
         return i;
@@ -111,7 +111,7 @@ pub fn put_next(
     n: usize,
 ) -> Merged
     requires { (pairs rises (items was.now) ≡ true) × (i ≤ length was.now / 70) × (some ≡ false → i < length was.now / 70) × (n + 1 < 2 ^ 64) }
-    ensures { Merging file (old was) i some (fields item) n (old out) result (new out) }
+    ensures { Merging file was.now i some (fields item) n out.old result out.new }
 {
     if is_gone(was, i, some, item.key) {
         let f = item::item_at(was, i);
@@ -153,7 +153,7 @@ pub struct MergeCursor {
 
 // The segment's next item, where none of the others comes before it.
 pub fn segment_next(segment: &[u8], file: u64, j: usize, k: usize) -> Next
-    ensures { FromSegment (old segment) j k result }
+    ensures { FromSegment segment.now j k result }
 {
     if j >= segment.len() / item::RECORD {
         let item = without_data(file, 0);

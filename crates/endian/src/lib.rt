@@ -30,7 +30,7 @@ fn joined2(a: u8, b: u8) -> u16
 // The sum itself: what the borrow checker proves unasked. The law of `num` is cited once, in `le64_at`.
 fn raw64(s: &[u8], at: usize) -> u64
     requires { at + 8 ≤ length s.now }
-    ensures { result ≡ sum8 (old s) at }
+    ensures { result ≡ sum8 s.now at }
 {
     joined8(
         s[at],
@@ -47,7 +47,7 @@ fn raw64(s: &[u8], at: usize) -> u64
 // The u64 in the eight bytes from `at`.
 pub fn le64_at(s: &[u8], at: usize) -> u64
     requires { at + 8 ≤ length s.now }
-    ensures { result ≡ num 8 at (old s) }
+    ensures { result ≡ num 8 at s.now }
 {
     raw64(s, at)
 }
@@ -55,7 +55,7 @@ pub fn le64_at(s: &[u8], at: usize) -> u64
 // The u16 in the two bytes from `at`.
 pub fn le16_at(s: &[u8], at: usize) -> u16
     requires { at + 2 ≤ length s.now }
-    ensures { result ≡ num 2 at (old s) }
+    ensures { result ≡ num 2 at s.now }
 {
     joined2(s[at], s[at + 1])
 }
@@ -63,7 +63,7 @@ pub fn le16_at(s: &[u8], at: usize) -> u16
 // The byte at `at`.
 pub fn le8_at(s: &[u8], at: usize) -> u8
     requires { at + 1 ≤ length s.now }
-    ensures { result ≡ num 1 at (old s) }
+    ensures { result ≡ num 1 at s.now }
 {
     s[at]
 }
@@ -71,7 +71,7 @@ pub fn le8_at(s: &[u8], at: usize) -> u8
 // The lowest w bytes of v over out, from `at`.
 pub fn put_num(out: &mut [u8], at: usize, w: usize, v: u64)
     requires { at + w ≤ length out.old }
-    ensures { new out ≡ put (enc w v) at (old out) }
+    ensures { out.new ≡ put (enc w v) at out.old }
 {
     let mut rest = v;
     let mut i = 0;
@@ -85,7 +85,7 @@ pub fn put_num(out: &mut [u8], at: usize, w: usize, v: u64)
 // n bytes of src from `from` over out, from `to`.
 pub fn copy(src: &[u8], from: usize, out: &mut [u8], to: usize, n: usize)
     requires { (from + n ≤ length src.now) × (to + n ≤ length out.old) }
-    ensures { new out ≡ put (take n (drop from (old src))) to (old out) }
+    ensures { out.new ≡ put (take n (drop from src.now)) to out.old }
 {
     let mut i = 0;
     while i < n {

@@ -24,7 +24,7 @@ fn ask_range(
     writes: &mut [u64],
 ) -> Answer
     requires { r.asked.kind ≡ 8 → ⊥ }
-    ensures { Met r.file.number (operation r (old list) (old shared) (old source) (old table) (old places)) result (six edits shares unrefs releases adds writes) }
+    ensures { Met r.file.number (operation r list.now shared.now source.now table.now places.now) result (six edits shares unrefs releases adds writes) }
 {
     let range = Range {
         offset: r.asked.from,
@@ -70,7 +70,7 @@ fn ask<'a>(
     adds: &mut [u64],
     writes: &mut [u64],
 ) -> Answer
-    ensures { Met r.file.number (operation r (old list) (old shared) (old source) (old table) (old places)) result (six edits shares unrefs releases adds writes) }
+    ensures { Met r.file.number (operation r list.now shared.now source.now table.now places.now) result (six edits shares unrefs releases adds writes) }
 {
     if r.asked.kind == 8 {
         let span = CloneRange {
@@ -104,7 +104,7 @@ pub fn operate(
     writes: &mut [u64],
 ) -> Answer
     requires { LieIn r items.now shared.now table.now places.now }
-    ensures { Met r.file.number (operation_in r (old items) (old shared) (old table) (old places)) result (six edits shares unrefs releases adds writes) }
+    ensures { Met r.file.number (operation_in r items.now shared.now table.now places.now) result (six edits shares unrefs releases adds writes) }
 {
     let from = r.items * item::RECORD;
     let to = r.stored * item::RECORD;

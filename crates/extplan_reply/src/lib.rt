@@ -33,7 +33,7 @@ pub fn answer(
     requires input_len_bound { length input.now ≤ 65536 }
     requires roomy { Roomy items.old shared.old table.old places.old }
     requires spacious { Spacious edits.old shares.old unrefs.old releases.old adds.old writes.old }
-    ensures { Replied (old input) result (outs (new edits) (new shares) (new unrefs) (new releases) (new adds) (new writes)) }
+    ensures { Replied input.now result (outs edits.new shares.new unrefs.new releases.new adds.new writes.new) }
 {
     let r = read_input::read_input(input, items, shared, table, places);
     let fault = read_order::fault(r);
@@ -65,7 +65,7 @@ pub fn reply_line(
 ) -> usize
     requires replied { Replied input.now r (outs edits.now shares.now unrefs.now releases.now adds.now writes.now) }
     requires in_bounds { 256 ≤ length line.old }
-    ensures { Added (line_at n (answer_to (old input))) 0 (old line) result (new line) }
+    ensures { Added (line_at n (answer_to input.now)) 0 line.old result line.new }
 {
     if r.fault == 0 {
         let a = r.answer;

@@ -85,7 +85,7 @@ fn item_refusal(size: u64, from: u64, to: u64, item: Item) -> u8
 // Refusals 10 and 11, item by item.
 fn items_refusal(size: u64, sector: u64, offset: u64, stop: u64, list: &[u8]) -> u8
     requires { (sector_sound sector ≡ true) × (stop < 2 ^ 63) }
-    ensures { result ≡ stage (item_refusal size (round_down sector offset) (round_up sector stop)) (items (old list)) }
+    ensures { result ≡ stage (item_refusal size (round_down sector offset) (round_up sector stop)) (items list.now) }
 {
     let from = change_def::round_down(sector, offset);
     let to = change_def::round_up(sector, stop);
@@ -101,7 +101,7 @@ fn items_refusal(size: u64, sector: u64, offset: u64, stop: u64, list: &[u8]) ->
 // The bytes of the holes that are filled.
 fn hole_bytes(size: u64, sector: u64, offset: u64, stop: u64, list: &[u8]) -> u64
     requires { (sector_sound sector ≡ true) × (size < 2 ^ 63) × (offset < stop) × (stop < 2 ^ 63) × Runs 0 (items list.now) }
-    ensures { result ≡ sum_of (holes_to_allocate size sector offset stop (items (old list))) }
+    ensures { result ≡ sum_of (holes_to_allocate size sector offset stop (items list.now)) }
 {
     let c = end_change(size, sector, stop);
     let fill = fill_of(true, size, sector, offset, stop);
@@ -120,7 +120,7 @@ fn hole_bytes(size: u64, sector: u64, offset: u64, stop: u64, list: &[u8]) -> u6
 
 // Refusals 1 to 12: as a punch up to 9, then item by item 10 and 11, then 12, holes over the volume's bytes.
 fn fallocate_refusal(v: Volume, f: File, r: Range, list: &[u8], shared: &[u8], table: &[u64]) -> u8
-    ensures { result ≡ refusal_lent v f r (old list) (old shared) (old table) }
+    ensures { result ≡ refusal_lent v f r list.now shared.now table.now }
 {
     let broken = punch::range_refusal(v, f, r, list, shared, table);
     if broken != 0 {
@@ -155,7 +155,7 @@ pub fn fallocate(
     adds: &mut [u64],
     writes: &mut [u64],
 ) -> Answer
-    ensures { Met f.number (fallocate_lent v f r keep (old list) (old shared) (old table) (old places)) result (six edits shares unrefs releases adds writes) }
+    ensures { Met f.number (fallocate_lent v f r keep list.now shared.now table.now places.now) result (six edits shares unrefs releases adds writes) }
 {
     let why = fallocate_refusal(v, f, r, list, shared, table);
     if why != 0 {

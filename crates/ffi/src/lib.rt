@@ -41,7 +41,7 @@ fn file(number: u64, size: u64, nodatacow: bool) -> File
 // The nine numbers of a plan over the first of `answer`.
 fn put_nine(n: Numbers, answer: &mut [u64])
     requires { 9 ≤ length answer.old }
-    ensures { new answer ≡ put (nine n) 0 (old answer) }
+    ensures { answer.new ≡ put (nine n) 0 answer.old }
 {
     answer[0] = n.edits as u64;
     answer[1] = n.shares as u64;
@@ -57,7 +57,7 @@ fn put_nine(n: Numbers, answer: &mut [u64])
 // An answer's byte, and its numbers if it is a plan.
 fn tell(a: Answer, answer: &mut [u64]) -> u8
     requires { 9 ≤ length answer.old }
-    ensures { Told (said a) result (old answer) (new answer) }
+    ensures { Told (said a) result answer.old answer.new }
 {
     match a {
         Answer::Refused(why) => why,
@@ -95,7 +95,7 @@ pub extern "C" fn zag_punch(
     writes: &mut [u64],
     answer: &mut [u64],
 ) -> u8
-    ensures { Exported number (punch_lent (volume sector total generation snapshot) (file number size nodatacow) (range offset length) (old list) (old shared) (old table) (old places))
+    ensures { Exported number (punch_lent (volume sector total generation snapshot) (file number size nodatacow) (range offset length) list.now shared.now table.now places.now)
         result answer (six edits shares unrefs releases adds writes) }
 {
     if answer.len() < 9 {
@@ -144,7 +144,7 @@ pub extern "C" fn zag_fallocate(
     writes: &mut [u64],
     answer: &mut [u64],
 ) -> u8
-    ensures { Exported number (fallocate_lent (volume sector total generation snapshot) (file number size nodatacow) (range offset length) keep (old list) (old shared) (old table) (old places))
+    ensures { Exported number (fallocate_lent (volume sector total generation snapshot) (file number size nodatacow) (range offset length) keep list.now shared.now table.now places.now)
         result answer (six edits shares unrefs releases adds writes) }
 {
     if answer.len() < 9 {
@@ -195,7 +195,7 @@ pub extern "C" fn zag_clone<'a>(
     releases: &mut [u64],
     answer: &mut [u64],
 ) -> u8
-    ensures { Exported number (clone_lent (volume sector total generation snapshot) (file number size false) (file source_number source_size false) own (clone_range from to length) (old list) (old shared) (old source) (old table))
+    ensures { Exported number (clone_lent (volume sector total generation snapshot) (file number size false) (file source_number source_size false) own (clone_range from to length) list.now shared.now source.now table.now)
         result answer (four edits shares unrefs releases) }
 {
     if answer.len() < 9 {

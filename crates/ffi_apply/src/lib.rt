@@ -13,7 +13,7 @@ use records::refusal;
 // An answer's byte, and its two counts if the plan is applied.
 fn tell(a: Applied, answer: &mut [u64]) -> u8
     requires { 2 ≤ length answer.old }
-    ensures { Heard (applied_said a) result (old answer) (new answer) }
+    ensures { Heard (applied_said a) result answer.old answer.new }
 {
     match a {
         Applied::Refused(why) => why,
@@ -43,7 +43,7 @@ pub extern "C" fn zag_apply(
     adds: &[u64],
     answer: &mut [u64],
 ) -> u8
-    ensures { Exported (apply_lent sector number generation items rows (old list) (old table) (parts_of (old edits) (old shares) (old unrefs) (old releases) (old adds))) result answer list table }
+    ensures { Exported (apply_lent sector number generation items rows list.old table.old (parts_of edits.now shares.now unrefs.now releases.now adds.now)) result answer list table }
 {
     if answer.len() < 2 {
         return refusal::ROOM;

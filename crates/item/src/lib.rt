@@ -227,7 +227,7 @@ impl Item {
 // 53 bytes of a list.
 fn data_at(s: &[u8], at: usize) -> [u8; 53]
     requires { at + 53 ≤ length s.now }
-    ensures { result ≡ take 53 (drop at (old s)) }
+    ensures { result ≡ take 53 (drop at s.now) }
 {
     let mut d = [0u8; 53];
     endian::copy(s, at, &mut d, 0, 53);
@@ -236,7 +236,7 @@ fn data_at(s: &[u8], at: usize) -> [u8; 53]
 
 fn raw_item(s: &[u8], at: usize) -> Item
     requires { at + 70 ≤ length s.now }
-    ensures { RawItem result (old s) at }
+    ensures { RawItem result s.now at }
 {
     Item {
         file: endian::le64_at(s, at),
@@ -249,7 +249,7 @@ fn raw_item(s: &[u8], at: usize) -> Item
 // Record n of a list.
 pub fn item_at(list: &[u8], n: usize) -> Item
     requires { n * 70 + 70 ≤ length list.now }
-    ensures { result ≡ item_of (drop (n * 70) (old list)) }
+    ensures { result ≡ item_of (drop (n * 70) list.now) }
 {
     raw_item(list, n * RECORD)
 }
@@ -257,7 +257,7 @@ pub fn item_at(list: &[u8], n: usize) -> Item
 // An item over the 70 bytes from `at`.
 pub fn put_item(out: &mut [u8], at: usize, item: Item)
     requires { at + 70 ≤ length out.old }
-    ensures { new out ≡ put (encode (fields item)) at (old out) }
+    ensures { out.new ≡ put (encode (fields item)) at out.old }
 {
     let d = item.data;
     endian::put_num(out, at, 8, item.file);

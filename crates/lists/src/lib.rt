@@ -47,7 +47,7 @@ pub fn advance<'a>(r: Reader<'a>) -> Reader<'a>
 
 // Refusal 1 of a list: broken length, or over-long.
 pub fn list_size_refusal(list: &[u8]) -> u8
-    ensures { result ≡ unless (list_sized (old list)) 1 }
+    ensures { result ≡ unless (list_sized list.now) 1 }
 {
     let n = list.len();
     unless(
@@ -64,7 +64,7 @@ fn shared_byte_refusal(b: u8) -> u8
 
 // Refusal 1 of shared bytes that are neither 0 nor 1.
 fn shared_bytes_refusal(shared: &[u8]) -> u8
-    ensures { result ≡ unless (every (λ (b : ℕ). leb b 1) (old shared)) 1 }
+    ensures { result ≡ unless (every (λ (b : ℕ). leb b 1) shared.now) 1 }
 {
     for i in 0..shared.len() {
         let why = shared_byte_refusal(shared[i]);
@@ -77,7 +77,7 @@ fn shared_bytes_refusal(shared: &[u8]) -> u8
 
 // Refusal 1 of the shared bytes: not one a record, or one that is neither 0 nor 1.
 pub fn shared_refusal(shared: &[u8], list: &[u8]) -> u8
-    ensures { result ≡ unless (shared_sound (old shared) (items (old list))) 1 }
+    ensures { result ≡ unless (shared_sound shared.now (items list.now)) 1 }
 {
     first(
         unless(shared.len() == list.len() / item::RECORD, refusal::BROKEN),
@@ -166,7 +166,7 @@ pub fn next(file: u64, last: Last, item: Item) -> Last
 
 // Refusal 2: a list that is not well kept, sectors aside.
 pub fn list_refusal(list: &[u8], file: u64) -> u8
-    ensures { result ≡ unless (list_kept file (items (old list))) 2 }
+    ensures { result ≡ unless (list_kept file (items list.now)) 2 }
 {
     let n = list.len() / item::RECORD;
     let mut last = Last {
@@ -218,7 +218,7 @@ fn whole_refusal(item: Item, sector: u64) -> u8
 // Refusal 4 of a list: a key or length of kind 1 or 2 that is not whole sectors.
 pub fn sectors_refusal(list: &[u8], sector: u64) -> u8
     requires { 0 < sector }
-    ensures { result ≡ unless (every (whole_sectors sector) (items (old list))) 4 }
+    ensures { result ≡ unless (every (whole_sectors sector) (items list.now)) 4 }
 {
     let n = list.len() / item::RECORD;
     for i in 0..n {
@@ -249,7 +249,7 @@ pub fn record_refusal(item: Item) -> u8
 
 // Refusals 7, 8 and 9, record by record.
 pub fn records_refusal(list: &[u8]) -> u8
-    ensures { result ≡ stage record_refusal (items (old list)) }
+    ensures { result ≡ stage record_refusal (items list.now) }
 {
     let n = list.len() / item::RECORD;
     let mut r = reader_at(list, 0);

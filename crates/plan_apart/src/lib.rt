@@ -9,7 +9,7 @@ use records::sum_at_most;
 
 // Whether each extent ends at most where the next starts.
 fn are_spaced(xs: &[u64]) -> bool
-    ensures { result ≡ neighbours ends_by (refs_in (old xs)) }
+    ensures { result ≡ neighbours ends_by (refs_in xs.now) }
 {
     for k in 1..xs.len() / 2 {
         let at = k * 2;
@@ -23,7 +23,7 @@ fn are_spaced(xs: &[u64]) -> bool
 // Whether every two extents share no byte. They are left sorted, unless they follow each other as they are.
 fn all_apart(xs: &mut [u64], spare: &mut [u64]) -> bool
     requires { length xs.old ≤ length spare.old }
-    ensures { result ≡ pairs apart (refs_in (old xs)) }
+    ensures { result ≡ pairs apart (refs_in xs.old) }
 {
     if are_spaced(xs) {
         return true;
@@ -35,7 +35,7 @@ fn all_apart(xs: &mut [u64], spare: &mut [u64]) -> bool
 // The same of the first n extents in a buffer; `spare` is for the sort.
 pub fn are_apart(xs: &mut [u64], n: usize, spare: &mut [u64]) -> bool
     requires { (n * 2 ≤ length xs.old) × (length xs.old ≤ length spare.old) }
-    ensures { result ≡ pairs apart (refs_in (take (n * 2) (old xs))) }
+    ensures { result ≡ pairs apart (refs_in (take (n * 2) xs.old)) }
 {
     all_apart(&mut xs[..n * 2], spare)
 }

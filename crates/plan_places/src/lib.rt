@@ -22,7 +22,7 @@ pub fn is_clear(a: u64, m: u64, b: u64, n: u64) -> bool
 // place's start only the first can meet it.
 pub fn place_clear(table: &[u64], start: u64, length: u64) -> bool
     requires { table_kept (rows table.now) ≡ true }
-    ensures { result ≡ every (λ (row : Row). clear start length row.start row.length) (rows (old table)) }
+    ensures { result ≡ every (λ (row : Row). clear start length row.start row.length) (rows table.now) }
 {
     let n = table.len() / 5;
     let mut lo = 0;
@@ -46,7 +46,7 @@ pub fn place_clear(table: &[u64], start: u64, length: u64) -> bool
 // Refusal 26 of one place: it is 0, has no 64-bit end, or meets a row.
 pub fn place_refusal(table: &[u64], start: u64, length: u64) -> u8
     requires { table_kept (rows table.now) ≡ true }
-    ensures { (k : ℕ) → result ≡ unless (place_sound (rows (old table)) (record { start = start; length = length; key = k })) 26 }
+    ensures { (k : ℕ) → result ≡ unless (place_sound (rows table.now) (record { start = start; length = length; key = k })) 26 }
 {
     unless(
         both(

@@ -24,7 +24,7 @@ fn last_line(
     out: &mut [u8],
 ) -> usize
     requires { (some * 3 ≤ length adds.now) × (more * 4 ≤ length writes.now) × (256 ≤ length out.old) }
-    ensures { Added (line_at n (last_lines (chunks add_in 3 some (old adds)) (chunks write_in 4 more (old writes)))) 0 (old out) result (new out) }
+    ensures { Added (line_at n (last_lines (chunks add_in 3 some adds.now) (chunks write_in 4 more writes.now))) 0 out.old result out.new }
 {
     if n < some {
         return add_line(adds, n, out);
@@ -49,7 +49,7 @@ fn behind_edits(
 ) -> usize
     requires { (p.shares * 2 ≤ length shares.now) × (p.unrefs * 2 ≤ length unrefs.now) × (p.releases * 2 ≤ length releases.now)
         × (p.adds * 3 ≤ length adds.now) × (p.writes * 4 ≤ length writes.now) × (256 ≤ length out.old) }
-    ensures { Added (line_at n (behind_edits (plan_in p (outs [] (old shares) (old unrefs) (old releases) (old adds) (old writes))))) 0 (old out) result (new out) }
+    ensures { Added (line_at n (behind_edits (plan_in p (outs [] shares.now unrefs.now releases.now adds.now writes.now)))) 0 out.old result out.new }
 {
     if n < p.shares {
         return ref_line(b"(share", shares, n, out);
@@ -78,7 +78,7 @@ fn plan_line(
     out: &mut [u8],
 ) -> usize
     requires { Holds p (outs edits.now shares.now unrefs.now releases.now adds.now writes.now) × (256 ≤ length out.old) }
-    ensures { Added (line_at n (plan_lines (plan_in p (outs (old edits) (old shares) (old unrefs) (old releases) (old adds) (old writes))))) 0 (old out) result (new out) }
+    ensures { Added (line_at n (plan_lines (plan_in p (outs edits.now shares.now unrefs.now releases.now adds.now writes.now)))) 0 out.old result out.new }
 {
     if n == 0 {
         return print_line::put_plan(out, 0, p.size, p.bytes, p.prealloc);
@@ -93,7 +93,7 @@ fn plan_line(
 // The one line of nothing to do.
 fn nothing_line(n: usize, out: &mut [u8]) -> usize
     requires { 256 ≤ length out.old }
-    ensures { Added (line_at n (nothing_line ∷ [])) 0 (old out) result (new out) }
+    ensures { Added (line_at n (nothing_line ∷ [])) 0 out.old result out.new }
 {
     if n != 0 {
         return 0;
@@ -104,7 +104,7 @@ fn nothing_line(n: usize, out: &mut [u8]) -> usize
 // The one line of a refusal.
 fn refused_line(why: u8, n: usize, out: &mut [u8]) -> usize
     requires { 256 ≤ length out.old }
-    ensures { Added (line_at n (refused_line why ∷ [])) 0 (old out) result (new out) }
+    ensures { Added (line_at n (refused_line why ∷ [])) 0 out.old result out.new }
 {
     if n != 0 {
         return 0;
@@ -115,7 +115,7 @@ fn refused_line(why: u8, n: usize, out: &mut [u8]) -> usize
 // What is printed, instead of an answer, for input whose line n is at fault.
 pub fn put_fault(n: u64, out: &mut [u8]) -> usize
     requires { 256 ≤ length out.old }
-    ensures { Added (fault_line n) 0 (old out) result (new out) }
+    ensures { Added (fault_line n) 0 out.old result out.new }
 {
     print_line::put_fault(out, 0, n)
 }
@@ -133,7 +133,7 @@ pub fn answer_line(
     out: &mut [u8],
 ) -> usize
     requires { HoldsAnswer (said answer) (outs edits.now shares.now unrefs.now releases.now adds.now writes.now) × (256 ≤ length out.old) }
-    ensures { Added (line_at n (shown answer (outs (old edits) (old shares) (old unrefs) (old releases) (old adds) (old writes)))) 0 (old out) result (new out) }
+    ensures { Added (line_at n (shown answer (outs edits.now shares.now unrefs.now releases.now adds.now writes.now))) 0 out.old result out.new }
 {
     match answer {
         Answer::Planned(p) => plan_line(p, edits, shares, unrefs, releases, adds, writes, n, out),

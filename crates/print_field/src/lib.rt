@@ -14,7 +14,7 @@ use item::Item;
 // A text.
 pub fn put_text(out: &mut [u8], at: usize, text: &[u8]) -> usize
     requires { at + length text.now ≤ length out.old }
-    ensures { Added (old text) at (old out) result (new out) }
+    ensures { Added text.now at out.old result out.new }
 {
     endian::copy(text, 0, out, at, text.len());
     at + text.len()
@@ -23,7 +23,7 @@ pub fn put_text(out: &mut [u8], at: usize, text: &[u8]) -> usize
 // A number; its digits are stored from the last to the first, and then copied.
 pub fn put_number(out: &mut [u8], at: usize, n: u64) -> usize
     requires { at + length (decimal n) ≤ length out.old }
-    ensures { Added (decimal n) at (old out) result (new out) }
+    ensures { Added (decimal n) at out.old result out.new }
 {
     let mut digits = [0u8; 20];
     let mut i: usize = 20;
@@ -44,7 +44,7 @@ pub fn put_number(out: &mut [u8], at: usize, n: u64) -> usize
 // A space and a number.
 pub fn put_spaced(out: &mut [u8], at: usize, n: u64) -> usize
     requires { at + length (spaced n) ≤ length out.old }
-    ensures { Added (spaced n) at (old out) result (new out) }
+    ensures { Added (spaced n) at out.old result out.new }
 {
     let a = put_text(out, at, b" ");
     put_number(out, a, n)
@@ -53,7 +53,7 @@ pub fn put_spaced(out: &mut [u8], at: usize, n: u64) -> usize
 // A field with one number.
 pub fn put_field(out: &mut [u8], at: usize, name: &[u8], n: u64) -> usize
     requires { at + length (field name.now n) ≤ length out.old }
-    ensures { Added (field (old name) n) at (old out) result (new out) }
+    ensures { Added (field name.now n) at out.old result out.new }
 {
     let a = put_text(out, at, b" (");
     let b = put_text(out, a, name);
@@ -64,7 +64,7 @@ pub fn put_field(out: &mut [u8], at: usize, name: &[u8], n: u64) -> usize
 // A field with two numbers.
 pub fn put_pair(out: &mut [u8], at: usize, name: &[u8], n: u64, m: u64) -> usize
     requires { at + length (pair name.now n m) ≤ length out.old }
-    ensures { Added (pair (old name) n m) at (old out) result (new out) }
+    ensures { Added (pair name.now n m) at out.old result out.new }
 {
     let a = put_text(out, at, b" (");
     let b = put_text(out, a, name);
@@ -76,7 +76,7 @@ pub fn put_pair(out: &mut [u8], at: usize, name: &[u8], n: u64, m: u64) -> usize
 // A field with one number, where that is not 0.
 pub fn put_unless_zero(out: &mut [u8], at: usize, name: &[u8], n: u64) -> usize
     requires { at + length (unless_zero name.now n) ≤ length out.old }
-    ensures { Added (unless_zero (old name) n) at (old out) result (new out) }
+    ensures { Added (unless_zero name.now n) at out.old result out.new }
 {
     if n == 0 {
         return at;
@@ -89,7 +89,7 @@ pub fn put_unless_zero(out: &mut [u8], at: usize, name: &[u8], n: u64) -> usize
 // The fields that every put has.
 fn put_item_fields(out: &mut [u8], at: usize, item: Item) -> usize
     requires { at + length (item_fields (fields item)) ≤ length out.old }
-    ensures { Added (item_fields (fields item)) at (old out) result (new out) }
+    ensures { Added (item_fields (fields item)) at out.old result out.new }
 {
     let a = put_field(out, at, b"key", item.key);
     let b = put_field(out, a, b"kind", item.kind() as u64);
@@ -100,7 +100,7 @@ fn put_item_fields(out: &mut [u8], at: usize, item: Item) -> usize
 // The fields that it has where they are not 0.
 fn put_added_fields(out: &mut [u8], at: usize, item: Item) -> usize
     requires { at + length (added_fields (fields item)) ≤ length out.old }
-    ensures { Added (added_fields (fields item)) at (old out) result (new out) }
+    ensures { Added (added_fields (fields item)) at out.old result out.new }
 {
     let a = put_unless_zero(out, at, b"generation", item.generation());
     let b = put_unless_zero(out, a, b"ram", item.ram());
@@ -112,7 +112,7 @@ fn put_added_fields(out: &mut [u8], at: usize, item: Item) -> usize
 // An item that is put.
 pub fn put_put(out: &mut [u8], at: usize, item: Item) -> usize
     requires { at + length (put_line (fields item)) ≤ length out.old }
-    ensures { Added (put_line (fields item)) at (old out) result (new out) }
+    ensures { Added (put_line (fields item)) at out.old result out.new }
 {
     let a = put_text(out, at, b"(put");
     let b = put_item_fields(out, a, item);

@@ -10,7 +10,7 @@ use print_field::{put_field, put_pair, put_spaced, put_text};
 // Nothing to do.
 pub fn put_nothing(out: &mut [u8], at: usize) -> usize
     requires { at + length nothing_line ≤ length out.old }
-    ensures { Added nothing_line at (old out) result (new out) }
+    ensures { Added nothing_line at out.old result out.new }
 {
     put_text(out, at, b"(nothing)\n")
 }
@@ -18,7 +18,7 @@ pub fn put_nothing(out: &mut [u8], at: usize) -> usize
 // A word and a number.
 fn put_number_line(out: &mut [u8], at: usize, word: &[u8], n: u64) -> usize
     requires { at + length (number_line word.now n) ≤ length out.old }
-    ensures { Added (number_line (old word) n) at (old out) result (new out) }
+    ensures { Added (number_line word.now n) at out.old result out.new }
 {
     let a = put_text(out, at, word);
     let b = put_spaced(out, a, n);
@@ -28,7 +28,7 @@ fn put_number_line(out: &mut [u8], at: usize, word: &[u8], n: u64) -> usize
 // A refusal.
 pub fn put_refused(out: &mut [u8], at: usize, n: u8) -> usize
     requires { at + length (refused_line n) ≤ length out.old }
-    ensures { Added (refused_line n) at (old out) result (new out) }
+    ensures { Added (refused_line n) at out.old result out.new }
 {
     put_number_line(out, at, b"(refused", n as u64)
 }
@@ -36,7 +36,7 @@ pub fn put_refused(out: &mut [u8], at: usize, n: u8) -> usize
 // An input line that can't be read.
 pub fn put_fault(out: &mut [u8], at: usize, n: u64) -> usize
     requires { at + length (fault_line n) ≤ length out.old }
-    ensures { Added (fault_line n) at (old out) result (new out) }
+    ensures { Added (fault_line n) at out.old result out.new }
 {
     put_number_line(out, at, b"(line", n)
 }
@@ -44,7 +44,7 @@ pub fn put_fault(out: &mut [u8], at: usize, n: u64) -> usize
 // A plan's first line.
 pub fn put_plan(out: &mut [u8], at: usize, size: u64, bytes: u64, prealloc: bool) -> usize
     requires { at + length (plan_line size bytes prealloc) ≤ length out.old }
-    ensures { Added (plan_line size bytes prealloc) at (old out) result (new out) }
+    ensures { Added (plan_line size bytes prealloc) at out.old result out.new }
 {
     let mark = records::pick(prealloc, 1, 0);
     let a = put_text(out, at, b"(plan");
@@ -57,7 +57,7 @@ pub fn put_plan(out: &mut [u8], at: usize, size: u64, bytes: u64, prealloc: bool
 // An item that is deleted.
 pub fn put_delete(out: &mut [u8], at: usize, key: u64) -> usize
     requires { at + length (delete_line key) ≤ length out.old }
-    ensures { Added (delete_line key) at (old out) result (new out) }
+    ensures { Added (delete_line key) at out.old result out.new }
 {
     let a = put_text(out, at, b"(delete");
     let b = put_field(out, a, b"key", key);
@@ -67,7 +67,7 @@ pub fn put_delete(out: &mut [u8], at: usize, key: u64) -> usize
 // A reference, under the word of its line.
 pub fn put_ref(out: &mut [u8], at: usize, word: &[u8], start: u64, offset: u64) -> usize
     requires { at + length (ref_line word.now (record { start = start; offset = offset })) ≤ length out.old }
-    ensures { Added (ref_line (old word) (record { start = start; offset = offset })) at (old out) result (new out) }
+    ensures { Added (ref_line word.now (record { start = start; offset = offset })) at out.old result out.new }
 {
     let a = put_text(out, at, word);
     let b = put_field(out, a, b"at", start);
@@ -78,7 +78,7 @@ pub fn put_ref(out: &mut [u8], at: usize, word: &[u8], start: u64, offset: u64) 
 // A new extent.
 pub fn put_add(out: &mut [u8], at: usize, start: u64, length: u64, key: u64) -> usize
     requires { at + lib.ListN.length (add_line (record { start = start; length = length; key = key })) ≤ lib.ListN.length out.old }
-    ensures { Added (add_line (record { start = start; length = length; key = key })) at (old out) result (new out) }
+    ensures { Added (add_line (record { start = start; length = length; key = key })) at out.old result out.new }
 {
     let a = put_text(out, at, b"(add");
     let b = put_field(out, a, b"at", start);
@@ -90,7 +90,7 @@ pub fn put_add(out: &mut [u8], at: usize, start: u64, length: u64, key: u64) -> 
 // A sector write.
 pub fn put_write(out: &mut [u8], at: usize, key: u64, to: u64, first: u64, end: u64) -> usize
     requires { at + length (write_line (record { key = key; at = to; first = first; end = end })) ≤ length out.old }
-    ensures { Added (write_line (record { key = key; at = to; first = first; end = end })) at (old out) result (new out) }
+    ensures { Added (write_line (record { key = key; at = to; first = first; end = end })) at out.old result out.new }
 {
     let a = put_text(out, at, b"(write");
     let b = put_field(out, a, b"key", key);

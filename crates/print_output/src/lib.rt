@@ -8,7 +8,7 @@ ghost use Rattle.print_line.specs.Lines.{edit_line, ref_line, add_line, write_li
 // An edit.
 pub fn edit_line(edits: &[u8], n: usize, out: &mut [u8]) -> usize
     requires { (n < length edits.now / 71) × (256 ≤ length out.old) }
-    ensures { Added (edit_line (edit_in (drop (n * 71) (old edits)))) 0 (old out) result (new out) }
+    ensures { Added (edit_line (edit_in (drop (n * 71) edits.now))) 0 out.old result out.new }
 {
     let item = plan_lines::edit_item(edits, n);
     if plan_lines::is_put(edits, n) {
@@ -20,7 +20,7 @@ pub fn edit_line(edits: &[u8], n: usize, out: &mut [u8]) -> usize
 // A share, an unref or a release, by its word.
 pub fn ref_line(word: &[u8], refs: &[u64], n: usize, out: &mut [u8]) -> usize
     requires { (length word.now ≤ 8) × (n < length refs.now / 2) × (256 ≤ length out.old) }
-    ensures { Added (ref_line (old word) (ref_in (drop (n * 2) (old refs)))) 0 (old out) result (new out) }
+    ensures { Added (ref_line word.now (ref_in (drop (n * 2) refs.now))) 0 out.old result out.new }
 {
     print_line::put_ref(out, 0, word, refs[n * 2], refs[n * 2 + 1])
 }
@@ -28,7 +28,7 @@ pub fn ref_line(word: &[u8], refs: &[u64], n: usize, out: &mut [u8]) -> usize
 // An add.
 pub fn add_line(adds: &[u64], n: usize, out: &mut [u8]) -> usize
     requires { (n < length adds.now / 3) × (256 ≤ length out.old) }
-    ensures { Added (add_line (add_in (drop (n * 3) (old adds)))) 0 (old out) result (new out) }
+    ensures { Added (add_line (add_in (drop (n * 3) adds.now))) 0 out.old result out.new }
 {
     print_line::put_add(out, 0, adds[n * 3], adds[n * 3 + 1], adds[n * 3 + 2])
 }
@@ -36,7 +36,7 @@ pub fn add_line(adds: &[u64], n: usize, out: &mut [u8]) -> usize
 // A sector write.
 pub fn write_line(writes: &[u64], n: usize, out: &mut [u8]) -> usize
     requires { (n < length writes.now / 4) × (256 ≤ length out.old) }
-    ensures { Added (write_line (write_in (drop (n * 4) (old writes)))) 0 (old out) result (new out) }
+    ensures { Added (write_line (write_in (drop (n * 4) writes.now))) 0 out.old result out.new }
 {
     print_line::put_write(
         out,

@@ -25,7 +25,7 @@ pub struct Start {
 // first that is no hole among those that end past it.
 fn first_held(list: &[u8], offset: u64) -> Start
     requires { Runs 0 (items list.now) }
-    ensures { offset_in result ≡ first_held offset (items (old list)) }
+    ensures { offset_in result ≡ first_held offset (items list.now) }
 {
     let from = cut_segment::ending_by(list, offset);
     for i in from..list.len() / item::RECORD {
@@ -89,7 +89,7 @@ fn within_sector(size: u64, sector: u64, start: u64, stop: u64) -> RangeChange
 // Whether an item holds an offset, if it is asked.
 fn held_if(asked: bool, o: u64, list: &[u8], shared: &[u8]) -> bool
     requires { (length shared.now ≡ length (items list.now)) × Runs 0 (items list.now) }
-    ensures { result ≡ (asked && held_by (holder o (items (old list)))) }
+    ensures { result ≡ (asked && held_by (holder o (items list.now))) }
 {
     if !asked {
         return false;
@@ -107,7 +107,7 @@ fn across_sectors(
     stop: u64,
 ) -> RangeChange
     requires { (sector_sound sector ≡ true) × (size < 2 ^ 63) × (start < stop) × (stop < 2 ^ 63) × (length shared.now ≡ length (items list.now)) × Runs 0 (items list.now) }
-    ensures { change_of result size ≡ across_sectors (items (old list)) size sector start stop }
+    ensures { change_of result size ≡ across_sectors (items list.now) size sector start stop }
 {
     let first = change_def::round_down(sector, start);
     let last = change_def::round_down(sector, stop);
@@ -142,7 +142,7 @@ fn sectors_of(
     stop: u64,
 ) -> RangeChange
     requires { (sector_sound sector ≡ true) × (size < 2 ^ 63) × (start < stop) × (stop < 2 ^ 63) × (length shared.now ≡ length (items list.now)) × Runs 0 (items list.now) }
-    ensures { change_of result size ≡ punch_change (items (old list)) size sector start stop }
+    ensures { change_of result size ≡ punch_change (items list.now) size sector start stop }
 {
     if in_one_sector(sector, start, stop) {
         within_sector(size, sector, start, stop)
@@ -168,7 +168,7 @@ fn plan_punch(
     stop: u64,
 ) -> PunchPlan
     requires { (sector_sound sector ≡ true) × (size < 2 ^ 63) × (stop < 2 ^ 63) × (length shared.now ≡ length (items list.now)) × Runs 0 (items list.now) }
-    ensures { punch_plan_said result size ≡ plan_punch (items (old list)) size sector offset stop }
+    ensures { punch_plan_said result size ≡ plan_punch (items list.now) size sector offset stop }
 {
     let start = first_held(list, offset);
     if both(start.found, start.at < stop) {
@@ -182,7 +182,7 @@ fn plan_punch(
 
 // Refusals 1 to 9 of a punch or a fallocate: of what it is lent, of its range, and record by record.
 pub fn range_refusal(v: Volume, f: File, r: Range, list: &[u8], shared: &[u8], table: &[u64]) -> u8
-    ensures { result ≡ range_lent v f r (old list) (old shared) (old table) }
+    ensures { result ≡ range_lent v f r list.now shared.now table.now }
 {
     let lent = request::lent_refusal(v, f, list, shared, table);
     let empty = whenever(r.length == 0, refusal::EMPTY);
@@ -213,7 +213,7 @@ pub fn punch_hole(
     adds: &mut [u64],
     writes: &mut [u64],
 ) -> Answer
-    ensures { Met f.number (punch_lent v f r (old list) (old shared) (old table) (old places)) result (six edits shares unrefs releases adds writes) }
+    ensures { Met f.number (punch_lent v f r list.now shared.now table.now places.now) result (six edits shares unrefs releases adds writes) }
 {
     let why = range_refusal(v, f, r, list, shared, table);
     if why != 0 {

@@ -14,7 +14,7 @@ use records::both;
 // The word's bytes one by one; the text has room for them.
 fn is_there(s: &[u8], at: usize, word: &[u8]) -> bool
     requires { at + length word.now ≤ length s.now }
-    ensures { result ≡ starts (old word) (drop at (old s)) }
+    ensures { result ≡ starts word.now (drop at s.now) }
 {
     for i in 0..word.len() {
         if s[at + i] != word[i] {
@@ -26,7 +26,7 @@ fn is_there(s: &[u8], at: usize, word: &[u8]) -> bool
 
 // Whether the text has the word at a place.
 pub fn starts_at(s: &[u8], at: usize, word: &[u8]) -> bool
-    ensures { result ≡ starts (old word) (drop at (old s)) }
+    ensures { result ≡ starts word.now (drop at s.now) }
 {
     if s.len() < at {
         return word.len() == 0;
@@ -39,7 +39,7 @@ pub fn starts_at(s: &[u8], at: usize, word: &[u8]) -> bool
 
 // The place behind the word; the text's end where the word is not there.
 pub fn after(s: &[u8], at: usize, word: &[u8]) -> usize
-    ensures { result ≡ behind (old word) at (old s) }
+    ensures { result ≡ behind word.now at s.now }
 {
     if starts_at(s, at, word) {
         return at + word.len();
@@ -64,7 +64,7 @@ fn is_digit(b: u8) -> bool
 
 // Where there is no number: the text's end.
 fn no_number(s: &[u8]) -> Number
-    ensures { result ≡ no_number (old s) }
+    ensures { result ≡ no_number s.now }
 {
     Number {
         at: s.len(),
@@ -94,7 +94,7 @@ fn pushed(v: u64, d: u8) -> u64
 // Whether the digits from `at` to `end` may be a number: there is one, and "0" stands before no other.
 fn is_plain(s: &[u8], at: usize, end: usize) -> bool
     requires { (end ≤ length s.now) × (at + length (digits (drop at s.now)) ≡ end) }
-    ensures { result ≡ plain (digits (drop at (old s))) }
+    ensures { result ≡ plain (digits (drop at s.now)) }
 {
     if end - at < 2 {
         return at < end;
@@ -105,7 +105,7 @@ fn is_plain(s: &[u8], at: usize, end: usize) -> bool
 // The number whose digits were read.
 fn ended(s: &[u8], at: usize, limit: u64, end: usize, v: u64) -> Number
     requires { Ended s.now at limit end v }
-    ensures { result ≡ number_at limit at (old s) }
+    ensures { result ≡ number_at limit at s.now }
 {
     if is_plain(s, at, end) {
         return Number { at: end, value: v };
@@ -115,7 +115,7 @@ fn ended(s: &[u8], at: usize, limit: u64, end: usize, v: u64) -> Number
 
 fn number_inside(s: &[u8], at: usize, limit: u64) -> Number
     requires { at ≤ length s.now }
-    ensures { result ≡ number_at limit at (old s) }
+    ensures { result ≡ number_at limit at s.now }
 {
     let mut v: u64 = 0;
     let mut i = at;
@@ -135,7 +135,7 @@ fn number_inside(s: &[u8], at: usize, limit: u64) -> Number
 
 // The number at a place of a text, of at most `limit`.
 pub fn number_at(s: &[u8], at: usize, limit: u64) -> Number
-    ensures { result ≡ number_at limit at (old s) }
+    ensures { result ≡ number_at limit at s.now }
 {
     if at > s.len() {
         return no_number(s);
@@ -156,7 +156,7 @@ pub struct Progress {
 // A number behind one space, as value k.
 fn next_number(line: &[u8], read: Progress, k: usize, limit: u64) -> Progress
     requires { k < 12 }
-    ensures { result ≡ number_step (old line) k limit read }
+    ensures { result ≡ number_step line.now k limit read }
 {
     let n = number_at(line, after(line, read.at, b" "), limit);
     let mut values = read.values;
@@ -167,7 +167,7 @@ fn next_number(line: &[u8], read: Progress, k: usize, limit: u64) -> Progress
 // Some numbers with one limit, each behind one space, from value k on.
 pub fn numbers(line: &[u8], read: Progress, k: usize, count: usize, limit: u64) -> Progress
     requires { k + count ≤ 12 }
-    ensures { result ≡ number_steps (old line) k (replicate count limit) read }
+    ensures { result ≡ number_steps line.now k (replicate count limit) read }
 {
     let mut r = read;
     for i in 0..count {
@@ -178,7 +178,7 @@ pub fn numbers(line: &[u8], read: Progress, k: usize, count: usize, limit: u64) 
 
 // The place moved behind a fixed word.
 fn skip(line: &[u8], read: Progress, word: &[u8]) -> Progress
-    ensures { result ≡ skipped (old line) (old word) read }
+    ensures { result ≡ skipped line.now word.now read }
 {
     let values = read.values;
     Progress {
@@ -197,7 +197,7 @@ pub fn field(
     limit: u64,
 ) -> Progress
     requires { k + count ≤ 12 }
-    ensures { result ≡ field_step (old line) (old name) k (replicate count limit) read }
+    ensures { result ≡ field_step line.now name.now k (replicate count limit) read }
 {
     if starts_at(line, read.at, name) {
         let named = skip(line, read, name);

@@ -11,7 +11,7 @@ use read_order::Read;
 // Where the line that starts at `at` ends: at its LF, or where the input does.
 fn line_end(s: &[u8], at: usize) -> usize
     requires { at ≤ length s.now }
-    ensures { result ≡ at + line_length (drop at (old s)) }
+    ensures { result ≡ at + line_length (drop at s.now) }
 {
     let mut i = at;
     while i < s.len() {
@@ -33,7 +33,7 @@ fn take_next(
     places: &mut [u64],
 ) -> Read
     requires { Few r 65537 }
-    ensures { Took r (kind_of (old line)) (values_of (old line)) (buffers (old items) (old shared) (old table) (old places)) result (buffers (new items) (new shared) (new table) (new places)) }
+    ensures { Took r (kind_of line.now) (values_of line.now) (buffers items.old shared.old table.old places.old) result (buffers items.new shared.new table.new places.new) }
 {
     let f = read_line::read_line(line);
     let v = f.values;
@@ -50,7 +50,7 @@ pub fn read_input(
     places: &mut [u64],
 ) -> Read
     requires { length input.now ≤ 65536 }
-    ensures { Stored (read_input (old input)) (buffers (old items) (old shared) (old table) (old places)) result (buffers (new items) (new shared) (new table) (new places)) }
+    ensures { Stored (read_input input.now) (buffers items.old shared.old table.old places.old) result (buffers items.new shared.new table.new places.new) }
 {
     let mut r = read_order::begin();
     let mut at: usize = 0;

@@ -14,7 +14,7 @@ use endian::put_num;
 // Two numbers of eight bytes over out, from `at`.
 fn put_eights(out: &mut [u8], at: usize, a: u64, b: u64)
     requires { at + 16 ≤ length out.old }
-    ensures { new out ≡ put (eights a b) at (old out) }
+    ensures { out.new ≡ put (eights a b) at out.old }
 {
     put_num(out, at, 8, a);
     put_num(out, at + 8, 8, b);
@@ -23,7 +23,7 @@ fn put_eights(out: &mut [u8], at: usize, a: u64, b: u64)
 // An item's key.
 fn put_key(out: &mut [u8], at: usize, file: u64, key: u64)
     requires { at + 17 ≤ length out.old }
-    ensures { new out ≡ put (key_bytes file key) at (old out) }
+    ensures { out.new ≡ put (key_bytes file key) at out.old }
 {
     put_num(out, at, 8, file);
     put_num(out, at + 8, 1, 108);
@@ -33,7 +33,7 @@ fn put_key(out: &mut [u8], at: usize, file: u64, key: u64)
 // An item's compression, encryption, other encoding and kind.
 fn put_codes(out: &mut [u8], at: usize, a: u64, b: u64, c: u64, d: u64)
     requires { at + 5 ≤ length out.old }
-    ensures { new out ≡ put (code_bytes a b c d) at (old out) }
+    ensures { out.new ≡ put (code_bytes a b c d) at out.old }
 {
     put_num(out, at, 1, a);
     put_num(out, at + 1, 1, b);
@@ -44,7 +44,7 @@ fn put_codes(out: &mut [u8], at: usize, a: u64, b: u64, c: u64, d: u64)
 // An item line's record over the 70 bytes from `at`.
 fn put_record(out: &mut [u8], at: usize, file: u64, v: [u64; 12])
     requires { at + 70 ≤ length out.old }
-    ensures { new out ≡ put (encode (item_of file v)) at (old out) }
+    ensures { out.new ≡ put (encode (item_of file v)) at out.old }
 {
     put_key(out, at, file, v[0]);
     put_eights(out, at + 17, v[6], v[7]);
@@ -55,7 +55,7 @@ fn put_record(out: &mut [u8], at: usize, file: u64, v: [u64; 12])
 
 // Record n, if the line is one.
 pub fn keep_item(out: &mut [u8], n: usize, is: bool, file: u64, v: [u64; 12])
-    ensures { new out ≡ lay encode 70 n (only is (item_of file v)) (old out) }
+    ensures { out.new ≡ lay encode 70 n (only is (item_of file v)) out.old }
 {
     if !is {
         return;
@@ -68,7 +68,7 @@ pub fn keep_item(out: &mut [u8], n: usize, is: bool, file: u64, v: [u64; 12])
 
 // Shared byte n, likewise.
 pub fn keep_shared(out: &mut [u8], n: usize, is: bool, v: u64)
-    ensures { new out ≡ lay byte 1 n (only is v) (old out) }
+    ensures { out.new ≡ lay byte 1 n (only is v) out.old }
 {
     if !is {
         return;

@@ -19,7 +19,7 @@ const MOST: u64 = 18446744073709551615;
 
 // A line behind its word.
 fn open(line: &[u8], word: &[u8]) -> Progress
-    ensures { result ≡ opened (old line) (old word) }
+    ensures { result ≡ opened line.now word.now }
 {
     Progress {
         at: after(line, 0, word),
@@ -38,7 +38,7 @@ fn unreadable() -> Form
 
 // The line's last bracket, with nothing behind it.
 fn finish(line: &[u8], read: Progress, kind: u8) -> Form
-    ensures { result ≡ finished (old line) kind read }
+    ensures { result ≡ finished line.now kind read }
 {
     let closed = starts_at(line, read.at, b")");
     let end = after(line, read.at, b")");
@@ -53,7 +53,7 @@ fn finish(line: &[u8], read: Progress, kind: u8) -> Form
 // their limit.
 fn volume_line(line: &[u8]) -> Form
     requires { Opens 0 line.now }
-    ensures { Says result (read_shape 0 (old line)) }
+    ensures { Says result (read_shape 0 line.now) }
 {
     let r = open(line, b"(volume");
     let r = field(line, r, b" (sector", 0, 1, MOST);
@@ -65,7 +65,7 @@ fn volume_line(line: &[u8]) -> Form
 
 fn file_line(line: &[u8]) -> Form
     requires { Opens 1 line.now }
-    ensures { Says result (read_shape 1 (old line)) }
+    ensures { Says result (read_shape 1 line.now) }
 {
     let r = open(line, b"(file");
     let r = field(line, r, b" (number", 0, 1, MOST);
@@ -76,7 +76,7 @@ fn file_line(line: &[u8]) -> Form
 
 fn item_line(line: &[u8]) -> Form
     requires { Opens 2 line.now }
-    ensures { Says result (read_shape 2 (old line)) }
+    ensures { Says result (read_shape 2 line.now) }
 {
     let r = open(line, b"(item");
     let r = field(line, r, b" (key", 0, 1, MOST);
@@ -94,7 +94,7 @@ fn item_line(line: &[u8]) -> Form
 
 fn extent_line(line: &[u8]) -> Form
     requires { Opens 3 line.now }
-    ensures { Says result (read_shape 3 (old line)) }
+    ensures { Says result (read_shape 3 line.now) }
 {
     let r = open(line, b"(extent");
     let r = field(line, r, b" (at", 0, 1, MOST);
@@ -107,7 +107,7 @@ fn extent_line(line: &[u8]) -> Form
 
 fn place_line(line: &[u8]) -> Form
     requires { Opens 4 line.now }
-    ensures { Says result (read_shape 4 (old line)) }
+    ensures { Says result (read_shape 4 line.now) }
 {
     let r = open(line, b"(place");
     let r = numbers(line, r, 0, 1, MOST);
@@ -116,7 +116,7 @@ fn place_line(line: &[u8]) -> Form
 
 fn punch_line(line: &[u8]) -> Form
     requires { Opens 5 line.now }
-    ensures { Says result (read_shape 5 (old line)) }
+    ensures { Says result (read_shape 5 line.now) }
 {
     let r = open(line, b"(punch");
     let r = field(line, r, b" (from", 0, 1, MOST);
@@ -126,7 +126,7 @@ fn punch_line(line: &[u8]) -> Form
 
 fn fallocate_line(line: &[u8]) -> Form
     requires { Opens 6 line.now }
-    ensures { Says result (read_shape 6 (old line)) }
+    ensures { Says result (read_shape 6 line.now) }
 {
     let r = open(line, b"(fallocate");
     let r = field(line, r, b" (from", 0, 1, MOST);
@@ -137,7 +137,7 @@ fn fallocate_line(line: &[u8]) -> Form
 
 fn clone_line(line: &[u8]) -> Form
     requires { Opens 7 line.now }
-    ensures { Says result (read_shape 7 (old line)) }
+    ensures { Says result (read_shape 7 line.now) }
 {
     let r = open(line, b"(clone");
     let r = field(line, r, b" (from", 0, 1, MOST);
@@ -148,7 +148,7 @@ fn clone_line(line: &[u8]) -> Form
 
 // A place or a request, by its opening word.
 fn request_line(line: &[u8]) -> Form
-    ensures { Says result (read_by (drop 4 shapes) (old line)) }
+    ensures { Says result (read_by (drop 4 shapes) line.now) }
 {
     if starts_at(line, 0, b"(place") {
         return place_line(line);
@@ -167,7 +167,7 @@ fn request_line(line: &[u8]) -> Form
 
 // A line by its opening word; kind 0 if it is unreadable.
 pub fn read_line(line: &[u8]) -> Form
-    ensures { Says result (read_line (old line)) }
+    ensures { Says result (read_line line.now) }
 {
     if starts_at(line, 0, b"(volume") {
         return volume_line(line);

@@ -18,7 +18,7 @@ use request::File;
 // Five numbers over out, from `at`.
 fn put_five(out: &mut [u64], at: usize, a: u64, b: u64, c: u64, d: u64, e: u64)
     requires { at + 5 ≤ length out.old }
-    ensures { new out ≡ put (a ∷ b ∷ c ∷ d ∷ e ∷ []) at (old out) }
+    ensures { out.new ≡ put (a ∷ b ∷ c ∷ d ∷ e ∷ []) at out.old }
 {
     plan_lines::put_four(out, at, a, b, c, d);
     out[at + 4] = e;
@@ -26,7 +26,7 @@ fn put_five(out: &mut [u64], at: usize, a: u64, b: u64, c: u64, d: u64, e: u64)
 
 // Row n.
 fn keep_row(out: &mut [u64], n: usize, is: bool, v: [u64; 12])
-    ensures { new out ≡ lay row_numbers 5 n (only is (row_of v)) (old out) }
+    ensures { out.new ≡ lay row_numbers 5 n (only is (row_of v)) out.old }
 {
     if !is {
         return;
@@ -39,7 +39,7 @@ fn keep_row(out: &mut [u64], n: usize, is: bool, v: [u64; 12])
 
 // Place n.
 fn keep_place(out: &mut [u64], n: usize, is: bool, v: u64)
-    ensures { new out ≡ lay alone 1 n (only is v) (old out) }
+    ensures { out.new ≡ lay alone 1 n (only is v) out.old }
 {
     if !is {
         return;
@@ -70,7 +70,7 @@ pub fn take_line(
     places: &mut [u64],
 ) -> Read
     requires { Few r 65537 }
-    ensures { Took r kind v (buffers (old items) (old shared) (old table) (old places)) result (buffers (new items) (new shared) (new table) (new places)) }
+    ensures { Took r kind v (buffers items.old shared.old table.old places.old) result (buffers items.new shared.new table.new places.new) }
 {
     let phase = read_order::next(r.phase, kind);
     let ok = phase != 0;

@@ -30,11 +30,13 @@ module _ {A : Type 0} (d : List ℕ → A) (w : ℕ) where
   pub chunks-take : (k n : ℕ) (s : List ℕ) → k ≤ n → take k (chunks d w n s) ≡ chunks d w k s
   unfolding chunks
   chunks-take zero n s h = refl
+  chunks-take (suc k) zero s h = elim h [ ]
   chunks-take (suc k) (suc n) s h = ap (λ (l : List A). d s ∷ l) (chunks-take k n (drop w s) (omega arith))
 
   pub chunks-drop : (k n : ℕ) (s : List ℕ) → k ≤ n → drop k (chunks d w n s) ≡ chunks d w (n - k) (drop (k * w) s)
   unfolding chunks
   chunks-drop zero n s h = rw (sub-zero, zero-mul) refl
+  chunks-drop (suc k) zero s h = elim h [ ]
   chunks-drop (suc k) (suc n) s h =
       let e : suc n - suc k ≡ n - k = omega arith in
       let m : suc k * w ≡ k * w + w = suc-mul k w in

@@ -19,7 +19,7 @@ use records::{both, counted};
 // An item's reference as line n, if it names one of two extents.
 fn put_named(item: Item, one: u64, two: u64, out: &mut [u64], n: usize) -> usize
     requires { n + 1 < 2 ^ 64 }
-    ensures { Laid ref_numbers 2 n (ref_named (one ∷ two ∷ []) (fields item)) (old out) result (new out) }
+    ensures { Laid ref_numbers 2 n (ref_named (one ∷ two ∷ []) (fields item)) out.old result out.new }
 {
     if ref_def::is_among(one, two, item) {
         return plan_lines::put_ref(out, n, item.extent_start(), item.reference());
@@ -29,7 +29,7 @@ fn put_named(item: Item, one: u64, two: u64, out: &mut [u64], n: usize) -> usize
 
 // Those of all items, as lines.
 fn collect(list: &[u8], one: u64, two: u64, out: &mut [u64]) -> usize
-    ensures { Laid ref_numbers 2 0 (refs_named (one ∷ two ∷ []) (items (old list))) (old out) result (new out) }
+    ensures { Laid ref_numbers 2 0 (refs_named (one ∷ two ∷ []) (items list.now)) out.old result out.new }
 {
     let k = list.len() / item::RECORD;
     let mut m: usize = 0;
@@ -42,7 +42,7 @@ fn collect(list: &[u8], one: u64, two: u64, out: &mut [u64]) -> usize
 // Those of all items in order, as the first lines of a buffer; how many there are.
 fn sorted_refs(list: &[u8], one: u64, two: u64, buf: &mut [u64], spare: &mut [u64]) -> usize
     requires { (length (items list.now) * 2 ≤ length buf.old) × (length buf.old ≤ length spare.old) }
-    ensures { (result ≤ length (items (old list))) × (refs_in (take (result * 2) (new buf)) ≡ refs_among (one ∷ two ∷ []) (items (old list))) }
+    ensures { (result ≤ length (items list.now)) × (refs_in (take (result * 2) buf.new) ≡ refs_among (one ∷ two ∷ []) (items list.now)) }
 {
     let n = collect(list, one, two, buf);
     let end = n * 2;
@@ -54,7 +54,7 @@ fn sorted_refs(list: &[u8], one: u64, two: u64, buf: &mut [u64], spare: &mut [u6
 
 // Whether pair k of a slice is there and is the pair s, p.
 fn is_there(ys: &[u64], k: usize, s: u64, p: u64) -> bool
-    ensures { result ≡ starts_with (record { start = s; offset = p }) (drop k (refs_in (old ys))) }
+    ensures { result ≡ starts_with (record { start = s; offset = p }) (drop k (refs_in ys.now)) }
 {
     if k < ys.len() / 2 {
         return both(ys[k * 2] == s, ys[k * 2 + 1] == p);
@@ -65,7 +65,7 @@ fn is_there(ys: &[u64], k: usize, s: u64, p: u64) -> bool
 // From pair j of a slice on, the first that is not before the pair s, p.
 fn skip(ys: &[u64], j: usize, s: u64, p: u64) -> usize
     requires { j ≤ length ys.now / 2 }
-    ensures { (result ≤ length (old ys) / 2) × (drop result (refs_in (old ys)) ≡ past (record { start = s; offset = p }) (drop j (refs_in (old ys)))) }
+    ensures { (result ≤ length ys.now / 2) × (drop result (refs_in ys.now) ≡ past (record { start = s; offset = p }) (drop j (refs_in ys.now))) }
 {
     let mut k = j;
     while ref_sort::is_earlier(ys, k, s, p) {
@@ -77,7 +77,7 @@ fn skip(ys: &[u64], j: usize, s: u64, p: u64) -> usize
 // A pair as line n, unless it is met.
 fn put_unless(met: bool, out: &mut [u64], n: usize, s: u64, p: u64) -> usize
     requires { n + 1 < 2 ^ 64 }
-    ensures { Laid ref_numbers 2 n (only (not met) (record { start = s; offset = p })) (old out) result (new out) }
+    ensures { Laid ref_numbers 2 n (only (not met) (record { start = s; offset = p })) out.old result out.new }
 {
     if met {
         return n;
@@ -88,7 +88,7 @@ fn put_unless(met: bool, out: &mut [u64], n: usize, s: u64, p: u64) -> usize
 // The pairs of xs that are left without those of ys, as lines; both are in order.
 fn put_minus(xs: &[u64], ys: &[u64], out: &mut [u64], n: usize) -> usize
     requires { (ordered (refs_in xs.now) ≡ true) × (ordered (refs_in ys.now) ≡ true) × (n + length xs.now / 2 < 2 ^ 64) }
-    ensures { Laid ref_numbers 2 n (minus (refs_in (old xs)) (refs_in (old ys))) (old out) result (new out) }
+    ensures { Laid ref_numbers 2 n (minus (refs_in xs.now) (refs_in ys.now)) out.old result out.new }
 {
     let k = xs.len() / 2;
     let mut j: usize = 0;
@@ -119,7 +119,7 @@ fn put_difference(
 ) -> usize
     requires { (n + length (items x.now) < 2 ^ 64) × (length (items x.now) * 2 ≤ length xs.old) × (length (items y.now) * 2 ≤ length ys.old)
         × (length xs.old ≤ length spare.old) × (length ys.old ≤ length spare.old) }
-    ensures { Laid ref_numbers 2 n (minus (refs_among (one ∷ two ∷ []) (items (old x))) (refs_among (one ∷ two ∷ []) (items (old y)))) (old out) result (new out) }
+    ensures { Laid ref_numbers 2 n (minus (refs_among (one ∷ two ∷ []) (items x.now)) (refs_among (one ∷ two ∷ []) (items y.now))) out.old result out.new }
 {
     let k = sorted_refs(x, one, two, xs, spare);
     let m = sorted_refs(y, one, two, ys, spare);
@@ -131,7 +131,7 @@ fn put_difference(
 // The same for at most 32 records of x and of y. The buffers are no longer than they need be, as they are zeroed.
 fn put_32(x: &[u8], y: &[u8], one: u64, two: u64, out: &mut [u64], n: usize) -> usize
     requires { (n + length (items x.now) < 2 ^ 64) × (length (items x.now) ≤ 32) × (length (items y.now) ≤ 32) }
-    ensures { Laid ref_numbers 2 n (minus (refs_among (one ∷ two ∷ []) (items (old x))) (refs_among (one ∷ two ∷ []) (items (old y)))) (old out) result (new out) }
+    ensures { Laid ref_numbers 2 n (minus (refs_among (one ∷ two ∷ []) (items x.now)) (refs_among (one ∷ two ∷ []) (items y.now))) out.old result out.new }
 {
     let mut xs = [0u64; 64];
     let mut ys = [0u64; 64];
@@ -142,7 +142,7 @@ fn put_32(x: &[u8], y: &[u8], one: u64, two: u64, out: &mut [u64], n: usize) -> 
 // The same for at most 1,024 records of x.
 fn put_1024(x: &[u8], y: &[u8], one: u64, two: u64, out: &mut [u64], n: usize) -> usize
     requires { (n + length (items x.now) < 2 ^ 64) × (length (items x.now) ≤ 1024) × (length (items y.now) ≤ 32) }
-    ensures { Laid ref_numbers 2 n (minus (refs_among (one ∷ two ∷ []) (items (old x))) (refs_among (one ∷ two ∷ []) (items (old y)))) (old out) result (new out) }
+    ensures { Laid ref_numbers 2 n (minus (refs_among (one ∷ two ∷ []) (items x.now)) (refs_among (one ∷ two ∷ []) (items y.now))) out.old result out.new }
 {
     let mut xs = [0u64; 2048];
     let mut ys = [0u64; 64];
@@ -154,7 +154,7 @@ fn put_1024(x: &[u8], y: &[u8], one: u64, two: u64, out: &mut [u64], n: usize) -
 // not built into its caller, and so a call with few records does not touch the stack that these buffers take.
 fn put_8192(x: &[u8], y: &[u8], one: u64, two: u64, out: &mut [u64], n: usize) -> usize
     requires { (n + length (items x.now) < 2 ^ 64) × (length (items x.now) ≤ 8192) × (length (items y.now) ≤ 32) }
-    ensures { Laid ref_numbers 2 n (minus (refs_among (one ∷ two ∷ []) (items (old x))) (refs_among (one ∷ two ∷ []) (items (old y)))) (old out) result (new out) }
+    ensures { Laid ref_numbers 2 n (minus (refs_among (one ∷ two ∷ []) (items x.now)) (refs_among (one ∷ two ∷ []) (items y.now))) out.old result out.new }
 {
     let mut xs = [0u64; 16384];
     let mut ys = [0u64; 64];
@@ -169,7 +169,7 @@ fn put_8192(x: &[u8], y: &[u8], one: u64, two: u64, out: &mut [u64], n: usize) -
 // The same for at most 65,536 records of x. It would never call itself either.
 fn put_65536(x: &[u8], y: &[u8], one: u64, two: u64, out: &mut [u64], n: usize) -> usize
     requires { (n + length (items x.now) < 2 ^ 64) × (length (items x.now) ≤ 65536) × (length (items y.now) ≤ 32) }
-    ensures { Laid ref_numbers 2 n (minus (refs_among (one ∷ two ∷ []) (items (old x))) (refs_among (one ∷ two ∷ []) (items (old y)))) (old out) result (new out) }
+    ensures { Laid ref_numbers 2 n (minus (refs_among (one ∷ two ∷ []) (items x.now)) (refs_among (one ∷ two ∷ []) (items y.now))) out.old result out.new }
 {
     let mut xs = [0u64; 131072];
     let mut ys = [0u64; 64];
@@ -184,7 +184,7 @@ fn put_65536(x: &[u8], y: &[u8], one: u64, two: u64, out: &mut [u64], n: usize) 
 // The same for at most 65,536 records of x and 32 of y.
 pub fn put_sorted(x: &[u8], y: &[u8], one: u64, two: u64, out: &mut [u64], n: usize) -> usize
     requires { (n + length (items x.now) < 2 ^ 64) × (length (items x.now) ≤ 65536) × (length (items y.now) ≤ 32) }
-    ensures { Laid ref_numbers 2 n (minus (refs_among (one ∷ two ∷ []) (items (old x))) (refs_among (one ∷ two ∷ []) (items (old y)))) (old out) result (new out) }
+    ensures { Laid ref_numbers 2 n (minus (refs_among (one ∷ two ∷ []) (items x.now)) (refs_among (one ∷ two ∷ []) (items y.now))) out.old result out.new }
 {
     let k = x.len() / item::RECORD;
     if k <= 32 {

@@ -87,7 +87,7 @@ pub fn size_refusal(size: u64) -> u8
 
 // Refusals 4 of one file: the sector, its size, the sectors of its list.
 fn fours(sector: u64, size: u64, list: &[u8]) -> u8
-    ensures { result ≡ fours sector size (old list) }
+    ensures { result ≡ fours sector size list.now }
 {
     if !sector_sound(sector) {
         return refusal::SECTOR;
@@ -97,7 +97,7 @@ fn fours(sector: u64, size: u64, list: &[u8]) -> u8
 
 // The same of two files.
 fn fours2(sector: u64, size: u64, size2: u64, list: &[u8], source: &[u8]) -> u8
-    ensures { result ≡ fours2 sector size size2 (old list) (old source) }
+    ensures { result ≡ fours2 sector size size2 list.now source.now }
 {
     if !sector_sound(sector) {
         return refusal::SECTOR;
@@ -113,7 +113,7 @@ fn fours2(sector: u64, size: u64, size2: u64, list: &[u8], source: &[u8]) -> u8
 
 // Refusals 1 of a list, its shared bytes and the table.
 fn ones(list: &[u8], shared: &[u8], table: &[u64]) -> u8
-    ensures { result ≡ ones (old list) (old shared) (old table) }
+    ensures { result ≡ ones list.now shared.now table.now }
 {
     first(
         lists::list_size_refusal(list),
@@ -126,7 +126,7 @@ fn ones(list: &[u8], shared: &[u8], table: &[u64]) -> u8
 
 // Refusals 2 of two lists: each is kept, and the second is not the first one's under another name.
 fn twos(number: u64, number2: u64, own: bool, list: &[u8], source: &[u8]) -> u8
-    ensures { result ≡ twos number number2 own (old list) (old source) }
+    ensures { result ≡ twos number number2 own list.now source.now }
 {
     first(
         lists::list_refusal(list, number),
@@ -139,7 +139,7 @@ fn twos(number: u64, number2: u64, own: bool, list: &[u8], source: &[u8]) -> u8
 
 // Refusals 1 to 4 of what a punch or a fallocate is lent.
 pub fn lent_refusal(v: Volume, f: File, list: &[u8], shared: &[u8], table: &[u64]) -> u8
-    ensures { result ≡ lent v f (old list) (old shared) (old table) }
+    ensures { result ≡ lent v f list.now shared.now table.now }
 {
     let kept = first(
         lists::list_refusal(list, f.number),
@@ -162,7 +162,7 @@ pub fn lent_refusal2(
     source: &[u8],
     table: &[u64],
 ) -> u8
-    ensures { result ≡ lent2 v dst src own (old list) (old shared) (old source) (old table) }
+    ensures { result ≡ lent2 v dst src own list.now shared.now source.now table.now }
 {
     let sizes = first(lists::list_size_refusal(source), ones(list, shared, table));
     let kept = first(

@@ -31,7 +31,7 @@ pub enum Found {
 // The row at place `at` of a table.
 fn row_in(table: &[u64], at: usize) -> Row
     requires { at + 5 ≤ length table.now }
-    ensures { result ≡ row_at (old table) at }
+    ensures { result ≡ row_at table.now at }
 {
     Row {
         start: table[at],
@@ -45,14 +45,14 @@ fn row_in(table: &[u64], at: usize) -> Row
 // Row n of a table.
 pub fn row_at(table: &[u64], n: usize) -> Row
     requires { n * 5 + 5 ≤ length table.now }
-    ensures { result ≡ row_of (drop (n * 5) (old table)) }
+    ensures { result ≡ row_of (drop (n * 5) table.now) }
 {
     row_in(table, n * 5)
 }
 
 // Refusal 1 of a table: broken length, or over-long.
 pub fn table_size_refusal(table: &[u64]) -> u8
-    ensures { result ≡ unless (table_sized (old table)) 1 }
+    ensures { result ≡ unless (table_sized table.now) 1 }
 {
     let n = table.len();
     unless(both(n % 5 == 0, n / 5 <= 65536), refusal::BROKEN)
@@ -77,7 +77,7 @@ fn row_refusal(from: u64, row: Row) -> u8
 // Refusal 3: a table that is not as it should be. `from` is where the row before ends; 1 before the first, since no row
 // starts at 0.
 pub fn table_refusal(table: &[u64]) -> u8
-    ensures { result ≡ unless (table_kept (rows (old table))) 3 }
+    ensures { result ≡ unless (table_kept (rows table.now)) 3 }
 {
     let mut from: u64 = 1;
     for i in 0..table.len() / 5 {
@@ -94,7 +94,7 @@ pub fn table_refusal(table: &[u64]) -> u8
 // The row that starts at `start`, by halves.
 pub fn find_row(table: &[u64], start: u64) -> Found
     requires { table_kept (rows table.now) ≡ true }
-    ensures { result ≡ find start (rows (old table)) }
+    ensures { result ≡ find start (rows table.now) }
 {
     let mut lo = 0;
     let mut hi = table.len() / 5;
@@ -142,7 +142,7 @@ pub fn item_window_inside(bytenr: u64, position: u64, len: u64, extent_len: u64)
 // Refusals 14 and 15 of one more reference to the extent at `start`.
 pub fn one_more_reference(table: &[u64], start: u64) -> u8
     requires { table_kept (rows table.now) ≡ true }
-    ensures { result ≡ one_more_reference start (rows (old table)) }
+    ensures { result ≡ one_more_reference start (rows table.now) }
 {
     let Found::At(_, row) = find_row(table, start) else {
         return refusal::NO_ROW;
