@@ -1,4 +1,6 @@
 // Applying a plan to a list and to the extents table, in place. Both are lent with a count and room behind it.
+#![tactic(auto)]
+
 ghost use Rattle.std.specs.Prelude.{◌≤◌, length};
 ghost use Rattle.records.specs.Lent.{old, new};
 ghost use Rattle.plan_def.specs.Plans.{Plan};
@@ -8,14 +10,14 @@ ghost use Rattle.apply.specs.Outcomes.{MetApplying};
 ghost use Rattle.apply.specs.Raw.{ReadyFor, Zeros, apply_to};
 
 // How many records and rows there are after a plan.
-#[derive(Drop)]
+#[derive(Clone, Copy)]
 pub struct Sizes {
     pub items: usize,
     pub rows: usize,
 }
 
 // What applying answers: both are changed, or the number of a refusal, and nothing is.
-#[derive(Drop)]
+#[derive(Clone, Copy)]
 pub enum Applied {
     Done(Sizes),
     Refused(u8),
@@ -23,7 +25,7 @@ pub enum Applied {
 
 // What a plan is applied to, but for slices: the file's number, the volume's sector, the new generation, and how many records and
 // rows are counted.
-#[derive(Drop)]
+#[derive(Clone, Copy)]
 struct Target {
     number: u64,
     sector: u64,

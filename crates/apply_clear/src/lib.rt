@@ -1,4 +1,6 @@
 // Refusal 3 of the table after a plan: the rows of adds are tested one by one, then by pairs, and nothing is written.
+#![tactic(auto)]
+
 ghost use Rattle.std.specs.Prelude.{◌≡◌, true, ◌+◌, ◌*◌, ◌/◌, ◌≤◌, ◌<◌, length, drop};
 ghost use Rattle.records.specs.Lent.{old, new};
 ghost use Rattle.records.specs.Stages.{unless, every, pairs};

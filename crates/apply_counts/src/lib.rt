@@ -1,5 +1,7 @@
 // The lines of a plan counted by row of the table, in arrays that are lent: what each row gains and loses, and which rows
 // go. Refusals 14, an extent without a row, and 3, a net count that leaves 64 bits.
+#![tactic(auto)]
+
 ghost use Rattle.std.specs.Prelude.{◌≡◌, true, ◌++◌, ℕ, ◌+◌, ◌-◌, ◌*◌, ◌/◌, ◌≤◌, ◌<◌, ◌^◌, eqb, length, get_or};
 ghost use Rattle.records.specs.Lent.{old, new};
 ghost use Rattle.records.specs.Select.{count};

@@ -1,4 +1,6 @@
 // A plan's edits applied to a list in place: `items_after`. The list is lent with room behind its records.
+#![tactic(auto)]
+
 ghost use Rattle.std.specs.Prelude.{◌≡◌, true, List, ◌++◌, ℕ, ◌+◌, ◌*◌, ◌/◌, ◌≤◌, ◌<◌, length, take, drop};
 ghost use Rattle.records.specs.Lent.{old, new};
 ghost use Rattle.records.specs.Stages.{pairs};
@@ -15,7 +17,7 @@ ghost use Rattle.apply_items.specs.Passes.{IsPut, puts_in, merged, next_below, n
 use item::Item;
 
 // How far a pass is: at old record i and edit j, and at place w of the result.
-#[derive(Drop)]
+#[derive(Clone, Copy)]
 pub struct PassCursor {
     pub i: usize,
     pub j: usize,

@@ -1,4 +1,6 @@
 // Why a plan can't be applied: refusals 1 to 4 of what is lent, then those of the result, then 27. Nothing is written.
+#![tactic(auto)]
+
 ghost use Rattle.std.specs.Prelude.{◌≡◌, true, ◌&&◌, ℕ, ◌%◌, ◌≤◌, ◌<◌, eqb, length};
 ghost use Rattle.records.specs.Lent.{old};
 ghost use Rattle.records.specs.Stages.{first, unless, every};

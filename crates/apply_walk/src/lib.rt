@@ -1,5 +1,7 @@
 // The list after a plan's edits, walked record by record with nothing stored or written: how long it is, and whether it is
 // well kept.
+#![tactic(auto)]
+
 ghost use Rattle.std.specs.Prelude.{◌≡◌, Bool, true, [], ◌∷◌, ◌+◌, ◌*◌, ◌/◌, ◌≤◌, ◌<◌, eqb, length, get_or, drop};
 ghost use Rattle.records.specs.Lent.{old};
 ghost use Rattle.records.specs.Records.{records};
@@ -63,7 +65,7 @@ pub fn edits_order_refusal(edits: &[u8]) -> u8
 // ---- the walk
 
 // What a record of the result is: old record n, or what edit n puts. A delete gives none.
-#[derive(Drop)]
+#[derive(Clone, Copy)]
 pub enum Origin {
     Kept(usize),
     Edited(usize),
@@ -71,7 +73,7 @@ pub enum Origin {
 }
 
 // What a step gives, and where the next one goes on: at old record i and edit j.
-#[derive(Drop)]
+#[derive(Clone, Copy)]
 pub struct Step {
     pub origin: Origin,
     pub item: Item,

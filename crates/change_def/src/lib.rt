@@ -1,10 +1,12 @@
 // `change_range`: what a punch and a fallocate do once the range to cut, the sectors to rewrite and the holes to fill are
 // known. Definitions and laws; in code the structs of a change, and rounding to sectors.
+#![tactic(auto)]
+
 ghost use Rattle.std.specs.Prelude.{◌≡◌, ◌+◌, ◌<◌, ◌^◌};
 ghost use Rattle.change_def.specs.Rounding.{round_down, round_up};
 
 // A sector of the file that is rewritten, and the offsets of it to zero.
-#[derive(Drop)]
+#[derive(Clone, Copy)]
 pub struct Rewrite {
     pub sector: u64,
     pub first: u64,
@@ -12,7 +14,7 @@ pub struct Rewrite {
 }
 
 // A range to cut, and the sectors rewritten in it: one at the front, one at the back, each if it is said to be there.
-#[derive(Drop)]
+#[derive(Clone, Copy)]
 pub struct RangeChange {
     pub lo: u64,
     pub hi: u64,
@@ -23,7 +25,7 @@ pub struct RangeChange {
 }
 
 // The stretch of the file whose holes are filled, [from, to), and the file's new size.
-#[derive(Drop)]
+#[derive(Clone, Copy)]
 pub struct Fill {
     pub from: u64,
     pub to: u64,

@@ -1,4 +1,6 @@
 // The first half of `change_range`: what refuses a change, or what its plan needs, with no place taken.
+#![tactic(auto)]
+
 ghost use Rattle.std.specs.Prelude.{true, cond, ◌≡◌, ◌+◌, ◌<◌, ◌^◌};
 ghost use Rattle.records.specs.Lent.{old};
 ghost use Rattle.records.specs.Stages.{stage};
@@ -22,14 +24,14 @@ use change_segment::Parts;
 use request::{File, Numbers, Volume};
 
 // What a plan needs: how many records in each output, and new extents.
-#[derive(Drop)]
+#[derive(Clone, Copy)]
 pub struct Needs {
     pub numbers: Numbers,
     pub extents: NewExtents,
 }
 
 // The first half: what a plan needs, or what refuses it, places and room aside.
-#[derive(Drop)]
+#[derive(Clone, Copy)]
 pub enum Draft {
     Plan(Needs),
     Refused(u8),

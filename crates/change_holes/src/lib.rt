@@ -1,5 +1,7 @@
 // The new extents that a change wants, one behind the other: sectors written anew, then the pieces of the holes of a
 // stretch of the file, found by one sweep along the list. Nothing is stored: the nth stretch is worked out from two records.
+#![tactic(auto)]
+
 ghost use Rattle.std.specs.Prelude.{◌≡◌, ◌+◌, ◌*◌, ◌≤◌, ◌<◌, ◌^◌, length, get_or};
 ghost use mathlib.Core.List.{flat_map};
 ghost use Rattle.records.specs.Lent.{old};
@@ -11,7 +13,7 @@ ghost use Rattle.change_holes.specs.Walk.{Ends, stretch_of, gap_start, gap_stop,
 use records::smaller;
 
 // A stretch of a file from `start` up to `stop`; empty where `stop` is not past `start`.
-#[derive(Drop)]
+#[derive(Clone, Copy)]
 pub struct Bounds {
     pub start: u64,
     pub stop: u64,
@@ -19,7 +21,7 @@ pub struct Bounds {
 
 // What a change wants new extents for: two stretches (the sectors written anew), and the holes of [from, to) but for
 // those in [lo, hi).
-#[derive(Drop)]
+#[derive(Clone, Copy)]
 pub struct NewExtents {
     pub one: Bounds,
     pub two: Bounds,
@@ -30,7 +32,7 @@ pub struct NewExtents {
 }
 
 // How far a walk along the extents wanted is: what is left of a stretch, and the number of the next stretch.
-#[derive(Drop)]
+#[derive(Clone, Copy)]
 pub struct Cursor {
     pub rest: Bounds,
     pub next: usize,
@@ -107,7 +109,7 @@ fn stretch_at(w: NewExtents, list: &[u8], n: usize) -> Bounds
 // ---- sums
 
 // The bytes of the holes, and how many pieces they are laid in.
-#[derive(Drop)]
+#[derive(Clone, Copy)]
 pub struct Sums {
     pub bytes: u64,
     pub pieces: usize,
@@ -164,7 +166,7 @@ fn settle(w: NewExtents, list: &[u8], c: Cursor) -> Cursor
 }
 
 // A piece, and the walk behind it.
-#[derive(Drop)]
+#[derive(Clone, Copy)]
 pub struct Step {
     pub start: u64,
     pub length: u64,

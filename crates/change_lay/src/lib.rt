@@ -1,4 +1,6 @@
 // A plan laid over the outputs of a call, as far as each has room: with outputs of no length it is only counted.
+#![tactic(auto)]
+
 ghost use Rattle.std.specs.Prelude.{◌≡◌, [], ◌+◌};
 ghost use Rattle.records.specs.Lent.{old, new};
 ghost use Rattle.records.specs.Stages.{stage};
@@ -16,7 +18,7 @@ use change_segment::Parts;
 use request::{File, Volume};
 
 // How many lines of references there are.
-#[derive(Drop)]
+#[derive(Clone, Copy)]
 pub struct RefCounts {
     pub shares: usize,
     pub unrefs: usize,
@@ -24,14 +26,14 @@ pub struct RefCounts {
 }
 
 // How many edits there are, and the byte count.
-#[derive(Drop)]
+#[derive(Clone, Copy)]
 pub struct Edited {
     pub edits: usize,
     pub bytes: u64,
 }
 
 // How many lines of each kind there are, but for adds, and the byte count.
-#[derive(Drop)]
+#[derive(Clone, Copy)]
 pub struct Counts {
     pub refs: RefCounts,
     pub edits: Edited,

@@ -1,4 +1,6 @@
 // `change_range` in code: the lines of a change for each output, read off the list and the segment beside it.
+#![tactic(auto)]
+
 ghost use Rattle.std.specs.Prelude.{true, map, ◌≡◌, ◌+◌, ◌-◌, ◌*◌, ◌<◌, ◌≤◌, ◌^◌, length, take, drop};
 ghost use Rattle.records.specs.Lent.{old, new};
 ghost use Rattle.records.specs.Select.{only};

@@ -1,4 +1,6 @@
 // The places of new extents in code: refusal 26, and the adds.
+#![tactic(auto)]
+
 ghost use Rattle.std.specs.Prelude.{◌≡◌, true, map, ◌*◌, ◌≤◌, length, drop};
 ghost use Rattle.records.specs.Lent.{old, new};
 ghost use Rattle.records.specs.Stages.{unless, every, pairs};

@@ -1,4 +1,6 @@
 // `change_range`: the first half, a draft with no place taken (`change_draft`), then the finish, which takes the places and writes.
+#![tactic(auto)]
+
 ghost use Rattle.std.specs.Prelude.{true, ◌≡◌, length, get_or};
 ghost use Rattle.records.specs.Lent.{old, new};
 ghost use Rattle.item.specs.Items.{items};

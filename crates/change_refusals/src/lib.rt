@@ -1,4 +1,6 @@
 // All refusals of a change from 13 on, but for those of places and of room, with no place taken.
+#![tactic(auto)]
+
 ghost use Rattle.std.specs.Prelude.{true, List, ◌≡◌, ℕ, length};
 ghost use Rattle.records.specs.Lent.{old};
 ghost use Rattle.records.specs.Select.{only};

@@ -1,4 +1,6 @@
 // Sectors that are rewritten: which item holds one, and the refusals 16, 14, 17 and 18 of writing it in place.
+#![tactic(auto)]
+
 ghost use Rattle.std.specs.Prelude.{true, cond, ◌≡◌, ◌+◌, ◌<◌, ◌^◌, length};
 ghost use Rattle.std.proofs.Math.Option.{none};
 ghost use Rattle.records.specs.Lent.{old, new};
@@ -23,7 +25,7 @@ use request::{File, Volume};
 use table::Found;
 
 // The item that holds an offset, with its shared byte, if there is one.
-#[derive(Drop)]
+#[derive(Clone, Copy)]
 pub struct Holder {
     pub found: bool,
     pub item: Item,

@@ -1,4 +1,6 @@
 // `change_range` in code: what a change makes of a list, as a segment of a few items, with and without new ones.
+#![tactic(auto)]
+
 ghost use Rattle.std.specs.Prelude.{true, ◌≡◌, ◌+◌, ◌-◌, ◌*◌, ◌<◌, ◌≤◌, ◌^◌, length};
 ghost use Rattle.records.specs.Lent.{old, new};
 ghost use Rattle.item.specs.Items.{fields, items};
@@ -17,7 +19,7 @@ use records::both;
 use request::{File, Volume};
 
 // The preallocated items that hold a change's two sectors, each if it is there: those sectors are written in place.
-#[derive(Drop)]
+#[derive(Clone, Copy)]
 pub struct Parts {
     pub front: Holder,
     pub back: Holder,

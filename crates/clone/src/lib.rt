@@ -1,4 +1,6 @@
 // A clone: the list that is read as source (`source_list`), the refusals in order, and the operation, `clone_range`.
+#![tactic(auto)]
+
 ghost use Rattle.std.specs.Prelude.{false, true, List, [], ◌≡◌, ℕ, ◌+◌, ◌-◌, ◌<◌, ◌^◌, length};
 ghost use Rattle.records.specs.Lent.{old, new};
 ghost use Rattle.records.specs.Stages.{every};

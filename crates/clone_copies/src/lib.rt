@@ -1,5 +1,7 @@
 // What a clone lays over its outputs for its copies: their shares, their bytes, and the edits, a merge of the old items with
 // the copies and what the cut leaves. The copies are not stored: they are made from the source list as they are wanted.
+#![tactic(auto)]
+
 ghost use Rattle.std.specs.Prelude.{◌≡◌, true, map, ◌+◌, ◌/◌, ◌≤◌, ◌<◌, ◌^◌, length};
 ghost use Rattle.records.specs.Lent.{old, new};
 ghost use Rattle.records.specs.Stages.{pairs};

@@ -1,4 +1,6 @@
 // The source items of a clone: what refuses them (`source_records`), and their copies (`clone_item`).
+#![tactic(auto)]
+
 ghost use Rattle.std.specs.Prelude.{true, ◌≡◌};
 ghost use Rattle.records.specs.Lent.{old};
 ghost use Rattle.records.specs.Stages.{stage, every};
@@ -12,7 +14,7 @@ use records::{both, first, refusal, smaller, sum_past, unless, whenever};
 use table::Found;
 
 // What is copied: `span` bytes from offset `from` of the source to offset `to` of the file of this number.
-#[derive(Drop)]
+#[derive(Clone, Copy)]
 pub struct Copying {
     pub number: u64,
     pub from: u64,

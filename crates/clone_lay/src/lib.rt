@@ -1,4 +1,6 @@
 // A clone's plan laid over its outputs, as far as each has room: with outputs of no length it is only counted.
+#![tactic(auto)]
+
 ghost use Rattle.std.specs.Prelude.{◌≡◌, [], ◌++◌, map, ◌+◌, length};
 ghost use Rattle.records.specs.Lent.{old, new};
 ghost use Rattle.item.specs.Items.{items};

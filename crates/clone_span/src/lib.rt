@@ -1,5 +1,7 @@
 // What a clone asks of its range in both files: the length that is meant, and refusals 19 to 22, 6, 23 to 25, and those of the
 // destination's records.
+#![tactic(auto)]
+
 ghost use Rattle.std.specs.Prelude.{false, true, ◌≡◌, ◌+◌, ◌-◌, ◌<◌, ◌^◌};
 ghost use Rattle.records.specs.Lent.{old};
 ghost use Rattle.records.specs.Stages.{stage};
@@ -11,7 +13,7 @@ use item::Item;
 use records::{both, either, first, pick, refusal, sum_at_most, sum_is, unless, whenever};
 
 // What is cloned: `length` bytes from `from` in the source to `to` in the destination; 0 means to the source's end.
-#[derive(Drop)]
+#[derive(Clone, Copy)]
 pub struct CloneRange {
     pub from: u64,
     pub to: u64,

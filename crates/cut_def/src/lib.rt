@@ -1,5 +1,7 @@
 // What a cut, a write in place, a join and a new item make of a file's items: definitions and laws, and the tests of one
 // item in code.
+#![tactic(auto)]
+
 ghost use Rattle.std.specs.Prelude.{◌≡◌};
 ghost use Rattle.item.specs.Items.{fields, hole};
 ghost use Rattle.cut_def.specs.Cuts.{touched, covered, split};

@@ -1,5 +1,7 @@
 // A segment of a file's list in code: the few items that a change makes anew stand in a small buffer of records, beside
 // the lent list, which is not copied.
+#![tactic(auto)]
+
 ghost use Rattle.std.specs.Prelude.{◌≡◌, [], ◌∷◌, ◌++◌, ◌+◌, ◌-◌, ◌*◌, ◌≤◌, ◌<◌, ◌^◌, ltb, length, set, take, drop};
 ghost use Rattle.records.specs.Lent.{old, new};
 ghost use Rattle.records.specs.Select.{only};
@@ -11,7 +13,7 @@ use item::Item;
 use records::{sum_at_most, sum_past};
 
 // Records from..to of a list make way for the first `count` records of a buffer.
-#[derive(Drop)]
+#[derive(Clone, Copy)]
 pub struct Segment {
     pub from: usize,
     pub to: usize,
@@ -19,7 +21,7 @@ pub struct Segment {
 }
 
 // Records from..to of a list.
-#[derive(Drop)]
+#[derive(Clone, Copy)]
 pub struct RecordRange {
     pub from: usize,
     pub to: usize,

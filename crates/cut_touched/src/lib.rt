@@ -1,4 +1,6 @@
 // What a cut splits and drops, looked for among the records that it touches: no others can be split or dropped.
+#![tactic(auto)]
+
 ghost use Rattle.std.specs.Prelude.{◌≡◌, true, cond, List, [], ◌∷◌, map, ℕ, ◌+◌, ◌<◌, ◌^◌, length};
 ghost use Rattle.records.specs.Lent.{old, new};
 ghost use Rattle.records.specs.Select.{keep};

@@ -1,5 +1,7 @@
 // Drops chained by row, through arrays, in list order: whether those of a row free its extent, and a line for each. A number
 // in the arrays is an index and one more, and 0 ends a chain.
+#![tactic(auto)]
+
 ghost use Rattle.std.specs.Prelude.{◌≡◌, Bool, true, cond, not, [], ◌∷◌, map, ◌+◌, ◌*◌, ◌/◌, ◌<◌, ◌^◌, length, drop};
 ghost use Rattle.records.specs.Lent.{old, new};
 ghost use Rattle.records.specs.Select.{keep};
@@ -111,7 +113,7 @@ pub fn put_chain(
 // ---- the chains of all rows
 
 // Rows from one number up to another; none where `to` is not past `from`.
-#[derive(Drop)]
+#[derive(Clone, Copy)]
 pub struct RowRange {
     pub from: usize,
     pub to: usize,

@@ -1,5 +1,7 @@
 // Items that a cut drops, over a lent list, its shared bytes and the table: what they are refused with, which extents
 // are released, and a line for each drop.
+#![tactic(auto)]
+
 ghost use Rattle.std.specs.Prelude.{◌≡◌, true, cond, not, ℕ, ◌+◌, ◌/◌, ◌≤◌, ◌<◌, ◌^◌, length};
 ghost use mathlib.Core.List.{List, flat_map};
 ghost use Rattle.records.specs.Lent.{old, new};
@@ -19,7 +21,7 @@ use table::{Found, Row};
 
 // The range that is cut, and the starts of two extents that are written in place (0: none), whose items are compared
 // instead of dropped.
-#[derive(Drop)]
+#[derive(Clone, Copy)]
 pub struct Cut {
     pub lo: u64,
     pub hi: u64,
@@ -28,7 +30,7 @@ pub struct Cut {
 }
 
 // A refusal with the extent that it is due at; number 0 is none.
-#[derive(Drop)]
+#[derive(Clone, Copy)]
 pub struct Refused {
     pub start: u64,
     pub number: u8,

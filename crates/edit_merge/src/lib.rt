@@ -1,4 +1,6 @@
 // A plan's edits, one at a time: the next edit between an old list and the next new item (`put_next`).
+#![tactic(auto)]
+
 ghost use Rattle.std.specs.Prelude.{◌≡◌, true, false, List, [], ◌∷◌, ℕ, ◌+◌, ◌/◌, ◌≤◌, ◌<◌, ◌^◌, length};
 ghost use Rattle.records.specs.Lent.{old, new};
 ghost use Rattle.records.specs.Stages.{pairs};
@@ -92,7 +94,7 @@ pub fn passed(was: &[u8], i: usize, key: u64) -> usize
 }
 
 // What a step of a merge gives: whether the new item was put, the old list's next item, and how many edits there are.
-#[derive(Drop)]
+#[derive(Clone, Copy)]
 pub struct Merged {
     pub put: bool,
     pub i: usize,
@@ -134,7 +136,7 @@ pub fn put_next(
 // ---- loops over a merge, whose new items are a segment with others among it
 
 // The next new item, if there is one, and what is left behind it: the segment from item j on, the others from k on.
-#[derive(Drop)]
+#[derive(Clone, Copy)]
 pub struct Next {
     pub some: bool,
     pub item: Item,
@@ -143,7 +145,7 @@ pub struct Next {
 }
 
 // How far a merge is: the old list's next item, the segment's next, the next of the others, and the edits that there are.
-#[derive(Drop)]
+#[derive(Clone, Copy)]
 pub struct MergeCursor {
     pub i: usize,
     pub j: usize,

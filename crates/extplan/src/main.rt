@@ -1,5 +1,7 @@
 // extplan: reads a request from standard input and prints its plan, "(nothing)", "(refused N)" or "(line N)" (document 01,
 // "extplan"). The library `extplan_reply` reads, plans and prints; here are the buffers, reading and writing.
+#![tactic(auto)]
+
 ghost use Rattle.std.specs.Prelude.{◌≡◌, ◌≤◌, length};
 ghost use Rattle.plan_def.specs.Outputs.{outs};
 ghost use Rattle.extplan_reply.specs.Replies.{Replied};

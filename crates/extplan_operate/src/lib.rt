@@ -1,4 +1,6 @@
 // The operation that an input asks for, on what was read of it.
+#![tactic(auto)]
+
 ghost use Rattle.std.specs.Prelude.{[], ◌≡◌};
 ghost use Rattle.records.specs.Lent.{old, new};
 ghost use Rattle.plan_def.specs.Outputs.{six, Met};

@@ -1,4 +1,6 @@
 // What extplan answers to an input: first all of it, in outputs that are lent, then line by line.
+#![tactic(auto)]
+
 ghost use Rattle.std.specs.Prelude.{◌≡◌, ◌≤◌, length};
 ghost use Rattle.records.specs.Lent.{old, new};
 ghost use Rattle.print_field.specs.Text.{Added};
@@ -10,7 +12,7 @@ ghost use Rattle.extplan_reply.specs.Raw.{Roomy, Spacious};
 use request::Answer;
 
 // The line of the input that is at fault, or 0, and the operation's answer where none is.
-#[derive(Drop)]
+#[derive(Clone, Copy)]
 pub struct Reply {
     pub fault: usize,
     pub answer: Answer,

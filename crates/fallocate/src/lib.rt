@@ -1,6 +1,8 @@
 // A fallocate: what it refuses before any change (`fallocate_refusal`); what it asks of `change_range`, the sector of the
 // old end to cut and rewrite (`end_change`) and the stretch of the file whose holes are filled (`fill_of`); and the
 // operation, `fallocate`.
+#![tactic(auto)]
+
 ghost use Rattle.records.specs.Lent.{old, new};
 ghost use Rattle.change_def.specs.Preallocs.{sum_of};
 ghost use Rattle.std.specs.Prelude.{true, ◌≡◌, ◌<◌, ◌^◌};

@@ -1,6 +1,8 @@
 // The operations for C: numbers and slices in, a byte out. A slice is a pointer and a length; no output overlaps another
 // slice. The byte is 0 for a plan, 100 for nothing to do, else the refusal's number. `answer` receives the nine numbers of a
 // plan: edits, shares, unrefs, releases, adds and writes as counts, size, bytes, prealloc as 0 or 1.
+#![tactic(auto)]
+
 ghost use Rattle.std.specs.Prelude.{false, ◌≡◌, ◌≤◌, length};
 ghost use Rattle.records.specs.Lent.{old, new};
 ghost use Rattle.endian.specs.Le.{put};

@@ -1,6 +1,8 @@
 // Applying for C: numbers and slices in, a byte out. A slice is a pointer and a length; neither the list nor the table nor
 // `answer` overlaps another slice. The byte is 0 for a plan that is applied, else the refusal's number. `answer` receives the two
 // new counts, of records and of rows.
+#![tactic(auto)]
+
 ghost use Rattle.std.specs.Prelude.{◌≤◌, length};
 ghost use Rattle.records.specs.Lent.{old, new};
 ghost use Rattle.apply_def.specs.Lent.{apply_lent, parts_of};

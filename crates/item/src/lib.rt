@@ -1,4 +1,6 @@
 // An item of a file's list: the port's `DiskKey` with the data of its `EXTENT_DATA` item, and `regular_extent_item`.
+#![tactic(auto)]
+
 ghost use Rattle.std.specs.Prelude.{◌≡◌, ◌+◌, ◌*◌, ◌^◌, ◌<◌, ◌≤◌, length, take, drop, replicate};
 ghost use Rattle.records.specs.Lent.{old, new};
 ghost use Rattle.endian.specs.Le.{num, enc, put};
@@ -6,7 +8,7 @@ ghost use Rattle.item.specs.Items.{fields, item_of, encode, reference, regular_i
 ghost use Rattle.item.specs.Raw.{RawItem, written, blank};
 
 // An item's key and its data, kept together.
-#[derive(Drop)]
+#[derive(Clone, Copy)]
 pub struct Item {
     pub file: u64,
     pub key_type: u8,

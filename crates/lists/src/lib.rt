@@ -1,4 +1,6 @@
 // The checks of a file's list and of its shared bytes. Each answers 0 or the number of a refusal.
+#![tactic(auto)]
+
 ghost use Rattle.std.specs.Prelude.{◌≡◌, not, true, ◌||◌, ℕ, ◌+◌, ◌*◌, ◌%◌, ◌^◌, ◌<◌, ◌≤◌, leb, ltb, length, drop};
 ghost use Rattle.records.specs.Lent.{old};
 ghost use Rattle.records.specs.Stages.{unless, stage, every};
@@ -11,7 +13,7 @@ use records::{both, either, first, refusal, sum_at_most, sum_fits, unless, whene
 
 // ---- a reader: the list, and the number of the record that is read
 
-#[derive(Drop)]
+#[derive(Clone, Copy)]
 pub struct Reader<'a> {
     pub list: &'a [u8],
     pub number: usize,
@@ -117,7 +119,7 @@ fn item_sound(file: u64, item: Item) -> bool
 
 // What the check of the order keeps of the records that it has passed: whether there was one, the last one's key, and
 // the end of the last range.
-#[derive(Drop)]
+#[derive(Clone, Copy)]
 pub struct Last {
     pub any: bool,
     pub key: u64,

@@ -1,4 +1,6 @@
 // Whether extents, each a pair of numbers (start and length), share no byte: sorted, then neighbours compared.
+#![tactic(auto)]
+
 ghost use Rattle.std.specs.Prelude.{◌≡◌, ◌*◌, ◌≤◌, length, take};
 ghost use Rattle.records.specs.Lent.{old};
 ghost use Rattle.records.specs.Stages.{pairs, neighbours};

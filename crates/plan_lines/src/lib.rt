@@ -1,5 +1,7 @@
 // Lines of a plan, appended to an output that is lent. A line that finds no room is counted and not written, so that one
 // function counts a plan's lines and writes them. And edits read again.
+#![tactic(auto)]
+
 ghost use Rattle.std.specs.Prelude.{◌≡◌, [], ◌∷◌, ◌+◌, ◌*◌, ◌/◌, ◌≤◌, ◌<◌, ◌^◌, eqb, length, get_or, drop};
 ghost use Rattle.records.specs.Lent.{old, new};
 ghost use Rattle.endian.specs.Le.{put};

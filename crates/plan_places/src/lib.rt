@@ -1,4 +1,6 @@
 // Refusals 26 and 27 in code: the places of new extents, and the room for a plan.
+#![tactic(auto)]
+
 ghost use Rattle.std.specs.Prelude.{◌≡◌, true, ℕ};
 ghost use Rattle.records.specs.Lent.{old};
 ghost use Rattle.records.specs.Stages.{unless, every};

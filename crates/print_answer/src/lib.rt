@@ -1,5 +1,7 @@
 // What extplan prints for an answer: line n of it, put at the start of a buffer. Which output a line is from is found by
 // subtracting the numbers of lines, so a line costs the same wherever it stands.
+#![tactic(auto)]
+
 ghost use Rattle.std.specs.Prelude.{[], ◌∷◌, ◌*◌, ◌≤◌, length};
 ghost use Rattle.records.specs.Lent.{old, new};
 ghost use Rattle.records.specs.Records.{chunks};

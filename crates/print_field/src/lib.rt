@@ -1,5 +1,7 @@
 // What a printed line is made of, appended to a buffer: text, decimal numbers, fields, and the line of an item that is put. The
 // result is the place behind what was put.
+#![tactic(auto)]
+
 ghost use Rattle.std.specs.Prelude.{◌+◌, ◌≤◌, length};
 ghost use Rattle.records.specs.Lent.{old, new};
 ghost use Rattle.print_field.specs.Text.{decimal, Added};

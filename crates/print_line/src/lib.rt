@@ -1,4 +1,6 @@
 // The lines that extplan prints, appended to a buffer. The result is the place behind the line.
+#![tactic(auto)]
+
 ghost use Rattle.std.specs.Prelude.{◌+◌, ◌≤◌};
 ghost use lib.ListN.{length};
 ghost use Rattle.records.specs.Lent.{old, new};

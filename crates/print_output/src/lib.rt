@@ -1,4 +1,6 @@
 // Line n of one output of a plan, printed at the start of a buffer. The result is its length.
+#![tactic(auto)]
+
 ghost use Rattle.std.specs.Prelude.{◌*◌, ◌/◌, ◌≤◌, ◌<◌, length, drop};
 ghost use Rattle.records.specs.Lent.{old, new};
 ghost use Rattle.print_field.specs.Text.{Added};

@@ -1,4 +1,6 @@
 // A punch: where it starts, which sectors it cuts and rewrites (`plan_punch`), and the operation, `punch_hole`.
+#![tactic(auto)]
+
 ghost use Rattle.std.specs.Prelude.{true, ◌&&◌, [], ◌≡◌, ◌+◌, ◌<◌, ◌^◌, length};
 ghost use Rattle.records.specs.Lent.{old, new};
 ghost use Rattle.item.specs.Items.{items};
@@ -15,7 +17,7 @@ use records::{both, first, refusal, sum_at_most, unless, whenever};
 use request::{Answer, File, Range, Volume};
 
 // An offset of the file, if there is one.
-#[derive(Drop)]
+#[derive(Clone, Copy)]
 pub struct Start {
     pub found: bool,
     pub at: u64,
@@ -152,7 +154,7 @@ fn sectors_of(
 }
 
 // What a punch sets out to do: a change of its range, or nothing.
-#[derive(Drop)]
+#[derive(Clone, Copy)]
 pub enum PunchPlan {
     Change(RangeChange),
     Nothing,

@@ -1,5 +1,7 @@
 // What a line of extplan's input is made of, read at a place of it: fixed words, decimal numbers with a limit, and fields by
 // their names.
+#![tactic(auto)]
+
 ghost use Rattle.std.specs.Prelude.{◌≡◌, ◌+◌, ◌≤◌, ◌<◌, ◌^◌, length, drop, replicate, leb};
 ghost use Rattle.records.specs.Lent.{old};
 ghost use Rattle.read_field.specs.Words.{starts, behind};
@@ -50,7 +52,7 @@ pub fn after(s: &[u8], at: usize, word: &[u8]) -> usize
 // ---- numbers
 
 // A number and the place behind it.
-#[derive(Drop)]
+#[derive(Clone, Copy)]
 pub struct Number {
     pub at: usize,
     pub value: u64,
@@ -147,7 +149,7 @@ pub fn number_at(s: &[u8], at: usize, limit: u64) -> Number
 
 // A line on the way: the place that was reached, and the numbers so far. Where something can't be read, the place is the
 // line's end: nothing can be read there, so that the line is unreadable.
-#[derive(Drop)]
+#[derive(Clone, Copy)]
 pub struct Progress {
     pub at: usize,
     pub values: [u64; 12],

@@ -1,4 +1,6 @@
 // The whole input of extplan, read line by line.
+#![tactic(auto)]
+
 ghost use Rattle.std.specs.Prelude.{◌≡◌, ◌+◌, ◌≤◌, length, drop};
 ghost use Rattle.records.specs.Lent.{old, new};
 ghost use Rattle.read_order.specs.Few.{Few};

@@ -1,4 +1,6 @@
 // One line of extplan's input.
+#![tactic(auto)]
+
 ghost use Rattle.std.specs.Prelude.{◌≡◌, drop};
 ghost use Rattle.records.specs.Lent.{old};
 ghost use Rattle.read_line.specs.Forms.{shapes, read_by, read_line, Says};
@@ -8,7 +10,7 @@ use read_field::{Progress, after, field, numbers, starts_at};
 use records::both;
 
 // A line that was read: which of the eight shapes it has, 0 for none, and its numbers, filled up with zeros.
-#[derive(Drop)]
+#[derive(Clone, Copy)]
 pub struct Form {
     pub kind: u8,
     pub values: [u64; 12],

@@ -1,4 +1,6 @@
 // One line of extplan's input, taken into what was read before it.
+#![tactic(auto)]
+
 ghost use Rattle.std.specs.Prelude.{◌≡◌, cond, length};
 ghost use Rattle.read_order.specs.Order.{next};
 ghost use Rattle.read_order.specs.Taking.{volume_of, file_of, asked_of, begin, taken_to, taken, fault};
@@ -8,7 +10,7 @@ use records::{both, counted};
 use request::{File, Volume};
 
 // What is asked for: 6 a punch, 7 a fallocate, 8 a clone, with its numbers.
-#[derive(Drop)]
+#[derive(Clone, Copy)]
 pub struct Asked {
     pub kind: u8,
     pub from: u64,
@@ -20,7 +22,7 @@ pub struct Asked {
 // What was read: how far the input has come, the number of the next line (or of the one at fault), the volume and the
 // files, whether the file is its own source, how many items of the file, item lines, rows and places were stored, and
 // the request.
-#[derive(Drop)]
+#[derive(Clone, Copy)]
 pub struct Read {
     pub phase: u8,
     pub line: usize,

@@ -1,5 +1,7 @@
 // Lines of extplan's input stored in buffers: an item line as a record and a shared byte, an extent line as a row, a
 // place line as a number.
+#![tactic(auto)]
+
 ghost use Rattle.std.specs.Prelude.{◌≡◌, [], ◌∷◌, ◌+◌, ◌≤◌, length};
 ghost use Rattle.records.specs.Lent.{old, new};
 ghost use Rattle.table.specs.Rows.{row_of, row_numbers};

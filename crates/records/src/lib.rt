@@ -1,5 +1,7 @@
 // Tests and refusal stages in code, and (specs/, proofs/) records of one width with the laws of loops over them.
 // A test written with these functions is one expression without branches, so its proof is found unasked.
+#![tactic(auto)]
+
 pub mod refusal;
 
 ghost use Rattle.std.specs.Prelude.{◌≡◌, ◌&&◌, ◌||◌, cond, ◌+◌, ◌^◌, ◌<◌, max, min, eqb, leb, ltb};

@@ -1,4 +1,6 @@
 // References compared, and dropped items: definitions and laws, and which items name an extent in code.
+#![tactic(auto)]
+
 ghost use Rattle.std.specs.Prelude.{◌≡◌, [], ◌∷◌};
 ghost use Rattle.item.specs.Items.{fields};
 ghost use Rattle.cut_def.specs.Mappings.{named};

@@ -1,5 +1,7 @@
 // The references of a list to two extents, sorted, less those of another list: one pass over each list, two sorts, and one
 // walk along both.
+#![tactic(auto)]
+
 ghost use Rattle.std.specs.Prelude.{◌≡◌, true, not, [], ◌∷◌, ◌+◌, ◌*◌, ◌/◌, ◌<◌, ◌≤◌, ◌^◌, length, take, drop};
 ghost use Rattle.records.specs.Lent.{old, new};
 ghost use Rattle.records.specs.Select.{only};

@@ -1,4 +1,6 @@
 // What a request is lent, the checks behind refusals 1 to 4, and what an operation answers.
+#![tactic(auto)]
+
 ghost use Rattle.std.specs.Prelude.{◌≡◌};
 ghost use Rattle.records.specs.Lent.{old};
 ghost use Rattle.records.specs.Stages.{unless};
@@ -9,7 +11,7 @@ ghost use Rattle.request.specs.Answers.{number_of};
 use records::{either, first, refusal, unless};
 
 // The volume: its sector and its size in bytes, the current generation, and that of the last snapshot.
-#[derive(Drop)]
+#[derive(Clone, Copy)]
 pub struct Volume {
     pub sector: u64,
     pub total: u64,
@@ -18,7 +20,7 @@ pub struct Volume {
 }
 
 // A file: its number and size, and whether it is nodatacow.
-#[derive(Drop)]
+#[derive(Clone, Copy)]
 pub struct File {
     pub number: u64,
     pub size: u64,
@@ -26,7 +28,7 @@ pub struct File {
 }
 
 // A range of a file's bytes.
-#[derive(Drop)]
+#[derive(Clone, Copy)]
 pub struct Range {
     pub offset: u64,
     pub length: u64,
@@ -34,7 +36,7 @@ pub struct Range {
 
 // The numbers of a plan: how many records it has in each output, the file's new size and byte count, and whether the
 // file is marked for preallocation.
-#[derive(Drop)]
+#[derive(Clone, Copy)]
 pub struct Numbers {
     pub edits: usize,
     pub shares: usize,
@@ -47,7 +49,7 @@ pub struct Numbers {
     pub prealloc: bool,
 }
 
-#[derive(Drop)]
+#[derive(Clone, Copy)]
 pub enum Answer {
     Planned(Numbers),
     Nothing,

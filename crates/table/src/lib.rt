@@ -1,4 +1,6 @@
 // The lent table of extents: its rows, the search for one, and `window_inside_extent`.
+#![tactic(auto)]
+
 ghost use Rattle.std.specs.Prelude.{◌≡◌, true, ◌+◌, ◌*◌, ◌≤◌, length, drop};
 ghost use Rattle.records.specs.Lent.{old};
 ghost use Rattle.records.specs.Stages.{unless};
@@ -12,7 +14,7 @@ use records::{both, either, refusal, sum_fits, unless};
 
 // An extent: where it lies, how many items name it, the generation that made it, and whether its references are
 // kept as items of their own.
-#[derive(Drop)]
+#[derive(Clone, Copy)]
 pub struct Row {
     pub start: u64,
     pub length: u64,
@@ -22,7 +24,7 @@ pub struct Row {
 }
 
 // What a search finds: the row with its number, or none, for which refusal 14 is due.
-#[derive(Drop)]
+#[derive(Clone, Copy)]
 pub enum Found {
     At(usize, Row),
     Missing,

@@ -1,7 +1,9 @@
 // A punch or a fallocate, whichever a test asks for. Promises safety alone.
+#![tactic(auto)]
+
 use request::{Answer, File, Range, Volume};
 
-#[derive(Drop)]
+#[derive(Clone, Copy)]
 pub enum Operation {
     Punch,
     Fallocate(bool),

@@ -81,7 +81,7 @@ pub fn others_kept(f: usize, lists: &[u8], was: &[u8]) -> u8 {
 
 // The sectors that a call may change, from `lo` up to `hi`, and the old end's (64 for none); `whole` up to `past` are those
 // that the range covers whole. A clone's come from `source` on.
-#[derive(Drop)]
+#[derive(Clone, Copy)]
 struct Sectors {
     lo: u64,
     hi: u64,

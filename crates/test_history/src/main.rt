@@ -1,6 +1,8 @@
 // A long pseudo-random history of calls on four files and one extents table, through the compiled operations and applying.
 // After each call the claims of demand 3 are checked on the bytes. It prints what happened in each round, and stops at a
 // claim that does not hold. The seed is fixed, so its output is too.
+#![tactic(auto)]
+
 mod answers;
 mod claims;
 mod runs;

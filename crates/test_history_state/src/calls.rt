@@ -15,7 +15,7 @@ pub const FALLOCATE_KEEP: u64 = 2;
 pub const CLONE: u64 = 3;
 
 // An operation on `length` bytes of a file from `to` on; a clone's come from `from` on in the file `source`.
-#[derive(Drop)]
+#[derive(Clone, Copy)]
 pub struct Call {
     pub operation: u64,
     pub file: usize,
@@ -144,7 +144,7 @@ fn file(x: u64, s: &[u64], f: usize) -> File {
 }
 
 // A call with all that it is lent but slices.
-#[derive(Drop)]
+#[derive(Clone, Copy)]
 pub struct Lent {
     pub operation: u64,
     pub volume: Volume,

@@ -1,1 +1,2 @@
 // The worked examples of document 01: definitions and one theorem.
+#![tactic(auto)]

@@ -1,0 +1,6 @@
+use Rattle.item.proofs.Runs.{raw_item}
+use Rattle.std.proofs.Common.{rules}
+use Rattle.item.proofs.item_at.Goals as goal
+
+pub returns : goal.returns
+returns c = raw_item _ _ _ c.raw_item.ensures
