@@ -1,0 +1,8 @@
+use Prim.Native.Nat.{◌*◌}
+use mathlib.Core.Path.{◌∙◌}
+use Rattle.table.proofs.Laws.{row_read}
+use borrow.Author.Rules.{rules}
+use Rattle.table.proofs.row_at.Goals as goal
+
+pub returns : goal.returns
+returns c = let a = c.args in c.row_in.ensures ∙ row_read a.table.now (a.n * 5)
