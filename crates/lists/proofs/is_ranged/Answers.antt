@@ -1,0 +1,9 @@
+use mathlib.Core.Path.{◌∙◌, ap}
+use mathlib.Core.Bool.{◌||◌}
+use Prim.Native.Nat.{ℕ}
+use lib.Dec.{eqb}
+use borrow.Author.Rules.{rules}
+use Rattle.lists.proofs.is_ranged.Goals as goal
+
+pub returns : goal.returns
+returns c = c.either.ensures ∙ ap (λ (k : ℕ). eqb k 1 || eqb k 2) c.kind-kind.ensures

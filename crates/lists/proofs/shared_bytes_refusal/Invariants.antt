@@ -1,0 +1,20 @@
+use mathlib.Core.Path.{◌≡◌, ◌∙◌, refl}
+use Prim.Native.Nat.{ℕ, ◌-◌, ◌≤◌}
+use lib.Dec.{leb}
+use lib.ListN.{length}
+use borrow.Author.Rules.{rules}
+use Rattle.records.specs.Stages.{stage, unless, every}
+use Rattle.records.proofs.Loops.{rest, head, rest-ones, head_at, stage-turn, stage_stop, stage-done}
+use Rattle.records.proofs.Tests.{stage-every}
+use native.Mathlib.Omega.{arith}
+use Rattle.lists.proofs.shared_bytes_refusal.Given as goal
+
+-- the refusal of one byte
+abbrev one : ℕ → ℕ
+one b = unless (leb b 1) 1
+
+abbrev pub invariant-loop-i : goal.invariant-loop-i
+invariant-loop-i l = (l.i ≤ l.i-end) × (l.i-end ≡ length l.shared) × (stage one (rest head 1 l.shared l.i-end l.i) ≡ unless (every (λ (b : ℕ). leb b 1) l.shared) 1)
+
+abbrev pub decreases-loop-i : goal.decreases-loop-i
+decreases-loop-i l = l.i-end - l.i
