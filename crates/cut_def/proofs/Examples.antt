@@ -4,7 +4,7 @@ use mathlib.Core.List.{List, [], ◌∷◌, map, flat_map}
 use mathlib.Core.Option.{Option, none, some}
 use Prim.Native.Nat.{ℕ}
 use Rattle.records.specs.Select.{keep, any}
-use Rattle.item.specs.Items.{Fields, regular_item, windowed, joined}
+use Rattle.item.specs.Items.{Fields, regular_item, joined}
 use Rattle.item.proofs.Samples.{sample}
 use Rattle.cut_def.specs.Cuts.{cut_range, covered, split}
 use Rattle.cut_def.specs.Mappings.{Mapping, mapping}

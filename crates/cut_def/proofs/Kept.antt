@@ -15,9 +15,7 @@ use Rattle.item.specs.Items.{Fields, ranged, end, windowed, joined}
 use Rattle.lists.specs.Lists.{item_sound, range_sound, rises, apart, whole_sectors}
 use Rattle.lists.proofs.Order.{Ranged, item-ranged}
 use Rattle.lists.proofs.Laws.{Kept, kept-head, kept-tail, item-file, whole_facts}
-use mathlib.Core.Option.{some}
 use Rattle.cut_def.specs.Cuts.{front, back}
-use Rattle.cut_def.specs.Mappings.{holds}
 use Rattle.cut_def.specs.Pieces.{Piece, built, items_of, cut_pieces, insert, insert_all}
 use Rattle.cut_def.proofs.Mappings.{Left, stays, taken, fronted, backed, parted, left_cases, items-cut, Joint, joined-position, fits, Joins, unjoined, here, there, then, joins_every}
 

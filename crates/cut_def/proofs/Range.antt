@@ -4,14 +4,12 @@ use mathlib.Core.Bool.{Bool, true, false, cond, ◌&&◌}
 use mathlib.Core.List.{List, [], ◌∷◌, ◌++◌, flat_map}
 use Prim.Native.Nat.{ℕ, ◌+◌, ◌-◌, ◌<◌, ◌≤◌, min, max}
 use native.Mathlib.Omega.{arith}
-use native.Mathlib.Decide.{dec_lt}
 use lib.Dec.{ltb}
 use borrow.Author.Tests.{ltb-true, ltb-false, lt-ltb, le-ltb}
 use Rattle.records.specs.Stages.{every}
-use Rattle.records.specs.Select.{only}
 use Rattle.records.proofs.Tests.{both_left, both_right}
 use Rattle.item.specs.Items.{Fields, end}
-use Rattle.cut_def.specs.Cuts.{front, back, cut, touched, cut_range}
+use Rattle.cut_def.specs.Cuts.{front, back, cut, cut_range}
 use Rattle.cut_def.specs.Pieces.{items_of, cut_pieces}
 use Rattle.cut_def.proofs.Mappings.{left, items-cut}
 

@@ -1,6 +1,6 @@
 -- A file's items after a change, each marked as built by it or kept from before.
 use Rattle.std.specs.Prelude.{Bool, true, false, cond, ℕ, ◌+◌, ltb}
-use mathlib.Core.List.{List, [], ◌∷◌, ◌++◌, map, flat_map}
+use mathlib.Core.List.{List, [], ◌∷◌, map, flat_map}
 use Rattle.item.specs.Items.{Fields, hole}
 use Rattle.cut_def.specs.Cuts.{cut, touched}
 
