@@ -1,0 +1,10 @@
+use borrow.Author.Rules.{rules}
+use native.Mathlib.Omega.{arith}
+use Rattle.cut_segment.proofs.Touching.{touching_none, touching-some}
+use Rattle.cut_segment.proofs.touched.Goals as goal
+
+pub returns-then-hi-lo : goal.returns-then-hi-lo
+returns-then-hi-lo c = touching_none _ _ _ c.if-hi-lo.true
+
+pub returns : goal.returns
+returns c = touching-some _ _ _ _ _ (omega arith) c.requires c.ending_by-from.ensures c.started_by-to.ensures
