@@ -42,6 +42,7 @@ records-ranged (f ∷ fs) h =
 -- each of them, and none is encoded
 pub records-plain : (f : Fields) (fs : List Fields) → stage record_refusal fs ≡ 0 → Memᴰ f fs → Plain f
 records-plain f (g ∷ fs) h (Memᴰ.head e) = rw e (plain g (stage-zero record_refusal g fs h).0)
+records-plain f [] h x'' = elim x'' [ ]
 records-plain f (g ∷ fs) h (Memᴰ.tail m) = records-plain f fs (stage-zero record_refusal g fs h).1 m
 
 module _ (v : Volume) (f : File) (fs : List Fields) (shared : List ℕ) (rs : List Row) where

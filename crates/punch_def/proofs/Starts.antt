@@ -47,6 +47,7 @@ hold o f h = rw (h.range, h.named, le-leb f.key o h.low, lt-ltb o (end f) h.high
 -- an offset that an item holds has a holder, and the other way round
 pub holder-some : (o : ℕ) (f : Fields) (fs : List Fields) → Memᴰ f fs → holds o f ≡ true → held_by (holder o fs) ≡ true
 unfolding holder
+holder-some o f [] m h = elim m [ ]
 holder-some o f (g ∷ fs) m h = go (holds o g) refl m (λ m. holder-some o f fs m h)
   where
     go : (b : Bool) → holds o g ≡ b → Memᴰ f (g ∷ fs) → (Memᴰ f fs → held_by (holder o fs) ≡ true) → held_by (cond b (some g) (holder o fs)) ≡ true
@@ -92,6 +93,7 @@ pub record First (offset x : ℕ) (fs : List Fields) : Type 0 where
 
 pub first-none : (offset : ℕ) (fs : List Fields) → first_held offset fs ≡ none → (f : Fields) → Memᴰ f fs → Past offset f → ⊥
 unfolding first_held
+first-none offset [] e f m p = elim m [ ]
 first-none offset (g ∷ fs) e f m p = go (not (hole g) && ltb offset (end g)) refl e m (λ e m. first-none offset fs e f m p)
   where
     full : (o : Option ℕ) (x : ℕ) → lower o x ≡ none → ⊥
