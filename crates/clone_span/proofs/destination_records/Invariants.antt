@@ -1,0 +1,16 @@
+use borrow.Author.Rules.{rules}
+use mathlib.Core.Path.{◌≡◌, ◌∙◌}
+use Prim.Native.Nat.{◌-◌, ◌≤◌}
+use Rattle.records.specs.Stages.{stage}
+use Rattle.records.proofs.Loops.{rest, stage-turn, stage_stop, stage-done}
+use Rattle.item.specs.Items.{decode, items}
+use Rattle.item.proofs.Laws.{item-decode, rest-items}
+use Rattle.clone_span.specs.Spans.{destination_record}
+use native.Mathlib.Omega.{arith}
+use Rattle.clone_span.proofs.destination_records.Given as goal
+
+abbrev pub invariant-loop-i : goal.invariant-loop-i
+invariant-loop-i l = (l.i ≤ l.i-end) × (stage destination_record (rest decode 70 l.list l.i-end l.i) ≡ stage destination_record (items l.list))
+
+abbrev pub decreases-loop-i : goal.decreases-loop-i
+decreases-loop-i l = l.i-end - l.i
