@@ -58,14 +58,6 @@ module _ (dropped : Fields → Bool) (rs : List Row) (kept : table_kept rs ≡ t
 
 -- ---- one more item
 
-so : (b : Bool) → not b ≡ false → b ≡ true
-so true h = refl
-so false h = sym h
-
-not_so : (b : Bool) → not b ≡ true → b ≡ false
-not_so true h = sym h
-not_so false h = refl
-
 never : (b : Bool) → b ≡ false → b ≡ true → ⊥
 never b p q = let z : ◌≡◌ {A = ℕ} 0 1 = cc in omega arith
 
@@ -94,13 +86,13 @@ module _
       }
 
   -- not dropped
-  pub linked_kept : (t : Bool) → t ≡ dropped d.item → not t ≡ true → Linked dropped rs ds i heads nexts s
-  linked_kept t q z = linked_skip (λ k x l. rw (sym q ∙ not_so t z) refl)
+  pub linked_kept : (t : Bool) → t ≡ dropped d.item → t ≡ false → Linked dropped rs ds i heads nexts s
+  linked_kept t q z = linked_skip (λ k x l. rw (sym q ∙ z) refl)
 
   -- a drop of row r, put before its chain
   module _
       (kept : table_kept rs ≡ true) (start : ℕ) (p : start ≡ d.item.extent_start) (r : ℕ) (row : Row) (f : At r row ≡ find start rs)
-      (t : Bool) (q : t ≡ dropped d.item) (z : not t ≡ false) where
+      (t : Bool) (q : t ≡ dropped d.item) (z : t ≡ true) where
     r_in : r < length rs
     r_in = found_in dropped rs kept d start p r row f
 
@@ -111,7 +103,7 @@ module _
           row_room = rw length-set done.row_room;
           room = rw length-set done.room;
           starts = λ k x l. elim (ℕ_discrete k r) [
-            | yes m ↦ ap (λ (a : ℕ). get_or (set heads r (i + 1)) a 0) m ∙ get_or-set_same heads r (i + 1) 0 (omega (arith, r_in, done.row_room)) ∙ sym (first-at k x (rw m (of_this dropped rs kept d start p r row f (sym q ∙ so t z) x)))
+            | yes m ↦ ap (λ (a : ℕ). get_or (set heads r (i + 1)) a 0) m ∙ get_or-set_same heads r (i + 1) 0 (omega (arith, r_in, done.row_room)) ∙ sym (first-at k x (rw m (of_this dropped rs kept d start p r row f (sym q ∙ z) x)))
             | no m ↦ get_or-set_other heads r k (i + 1) 0 m ∙ done.starts k x l ∙ sym (ap (leader (drop_at dropped (get_or rs k x).start) i) next_here ∙ lead_no (drop_at dropped (get_or rs k x).start) i d (drop (i + 1) ds) (of_other dropped rs kept d start p r row f k x l m))
           ];
           goes = λ k x l j y m n u. elim (ℕ_discrete j i) [

@@ -1,0 +1,58 @@
+use Rattle.drop_chains.proofs.Walks.{Walk, walk_start, walk_stop, walk_moves, walk_bytes, walk_nexts, walk_goes, walk-tally, Tally, tally_first, tally_freed}
+use Rattle.drop_chains.specs.Chains.{Chain}
+use Rattle.ref_def.specs.Drops.{InLeaf, in_leaves}
+use Rattle.item.specs.Items.{items}
+use lib.ListN.{length, drop}
+use Prim.Native.Nat.{◌-◌, ◌≤◌}
+use mathlib.Core.Bool.{Bool}
+use mathlib.Core.Path.{◌∙◌, refl}
+use native.Mathlib.Omega.{arith}
+use borrow.Author.Rules.{rules}
+use Rattle.drop_chains.proofs.is_freed.Goals as goal
+
+pub loop-h-init : goal.loop-h-init
+loop-h-init c = λ p q.
+    (walk_start p c.args.list.now c.args.shared.now c.args.nexts.now _ c.requires.shared_len q, omega arith, tally_first _ _ _ refl)
+
+pub overflow_add-drops : goal.overflow_add-drops
+overflow_add-drops c = let p = c.requires.chain.0 in
+    let q = c.requires.chain.1 in
+    let i = c.loop-h.invariant p q in
+    omega (arith, i.1, walk_moves p c.args.list.now c.args.shared.now c.args.nexts.now _ c.requires.shared_len q _ _ i.0 c.loop-h-test.true, walk_bytes p c.args.list.now c.args.shared.now c.args.nexts.now _ c.requires.shared_len q _ _ i.0 c.loop-h-test.true, c.well_formed.1.1.0)
+
+pub bounds-shared-h : goal.bounds-shared-h
+bounds-shared-h c = let p = c.requires.chain.0 in
+    let q = c.requires.chain.1 in
+    let i = c.loop-h.invariant p q in
+    omega (arith, walk_bytes p c.args.list.now c.args.shared.now c.args.nexts.now _ c.requires.shared_len q _ _ i.0 c.loop-h-test.true, c.loop-h-test.true)
+
+pub offset_bounds-nexts-h : goal.offset_bounds-nexts-h
+offset_bounds-nexts-h c = let p = c.requires.chain.0 in
+    let q = c.requires.chain.1 in
+    let i = c.loop-h.invariant p q in
+    omega (arith, walk_nexts p c.args.list.now c.args.shared.now c.args.nexts.now _ c.requires.shared_len q _ _ i.0 c.loop-h-test.true, c.well_formed.1.1.1.0)
+
+pub bounds-nexts-h : goal.bounds-nexts-h
+bounds-nexts-h c = let p = c.requires.chain.0 in
+    let q = c.requires.chain.1 in
+    let i = c.loop-h.invariant p q in
+    omega (arith, walk_nexts p c.args.list.now c.args.shared.now c.args.nexts.now _ c.requires.shared_len q _ _ i.0 c.loop-h-test.true, c.loop-h-test.true)
+
+pub loop-h-smaller : goal.loop-h-smaller
+loop-h-smaller c = let p = c.requires.chain.0 in
+    let q = c.requires.chain.1 in
+    let i = c.loop-h.invariant p q in
+    omega (arith, walk_bytes p c.args.list.now c.args.shared.now c.args.nexts.now _ c.requires.shared_len q _ _ i.0 c.loop-h-test.true, walk_moves p c.args.list.now c.args.shared.now c.args.nexts.now _ c.requires.shared_len q _ _ i.0 c.loop-h-test.true)
+
+pub loop-h-preserved : goal.loop-h-preserved
+loop-h-preserved c = λ p q.
+    let i = c.loop-h.invariant p q in (
+      walk_goes p c.args.list.now c.args.shared.now c.args.nexts.now _ c.requires.shared_len q _ _ i.0 c.loop-h-test.true _ c.wide-h.ensures,
+      omega (arith, i.1, walk_moves p c.args.list.now c.args.shared.now c.args.nexts.now _ c.requires.shared_len q _ _ i.0 c.loop-h-test.true),
+      walk-tally p c.args.list.now c.args.shared.now c.args.nexts.now _ c.requires.shared_len q _ _ i.0 c.loop-h-test.true _ _ _ c.both-free.ensures i.2,
+    )
+
+pub returns : goal.returns
+returns c = λ p q.
+    let i = c.loop-h.invariant p q in
+    c.both.ensures ∙ tally_freed p _ _ _ _ _ (walk_stop p c.args.list.now c.args.shared.now c.args.nexts.now _ c.requires.shared_len q _ _ i.0 c.loop-h-test.false) i.2
