@@ -1,0 +1,26 @@
+use mathlib.Core.Path.{◌≡◌, ◌∙◌}
+use Prim.Native.Nat.{◌-◌, ◌≤◌}
+use Rattle.records.specs.Stages.{stage}
+use Rattle.records.proofs.Loops.{rest, stage-turn, stage_stop, stage-done}
+use Rattle.item.specs.Items.{decode, items}
+use Rattle.item.proofs.Laws.{item-decode, rest-items}
+use Rattle.table.specs.Rows.{rows}
+use Rattle.clone_items.specs.Copies.{source_record}
+use Rattle.clone_items.proofs.Sources.{kept_read}
+use native.Mathlib.Omega.{arith}
+use Rattle.clone_items.proofs.source_records.Goals as goal
+
+pub loop-i-init : goal.loop-i-init
+loop-i-init c = (omega arith, rw rest-items)
+
+pub source_record-why-requires-clause-in_files : goal.source_record-why-requires-clause-in_files
+source_record-why-requires-clause-in_files c = let p = c.requires.in_files in (p.0, kept_read c.args.list.now _ _ p.1 c.loop-i-test.true c.item_at.ensures)
+
+pub returns-then-why-ne0 : goal.returns-then-why-ne0
+returns-then-why-ne0 c = stage_stop decode 70 _ _ _ _ _ _ (omega arith) (item-decode _ _ c.item_at.ensures) c.source_record-why.ensures c.if-why-ne0.true ∙ c.loop-i.invariant.1
+
+pub loop-i-preserved : goal.loop-i-preserved
+loop-i-preserved c = (omega arith, stage-turn decode 70 _ _ _ _ _ _ (omega arith) (item-decode _ _ c.item_at.ensures) c.source_record-why.ensures c.if-why-ne0.false ∙ c.loop-i.invariant.1)
+
+pub returns : goal.returns
+returns c = stage-done decode 70 _ _ _ _ c.loop-i-test.false ∙ c.loop-i.invariant.1
