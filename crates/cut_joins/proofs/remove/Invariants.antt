@@ -1,0 +1,16 @@
+use Rattle.cut_segment.proofs.Inserting.{remove_turn, remove_done}
+use Rattle.item.proofs.Laws.{items-length}
+use Rattle.item.specs.Items.{items}
+use borrow.Author.Rules.{rules}
+use lib.ListN.{length, take, drop}
+use Prim.Native.Nat.{◌+◌, ◌-◌, ◌≤◌}
+use mathlib.Core.List.{◌++◌}
+use mathlib.Core.Path.{◌≡◌, ◌∙◌, refl}
+use native.Mathlib.Omega.{arith}
+use Rattle.cut_joins.proofs.remove.Given as goal
+
+abbrev pub invariant-loop-i : goal.invariant-loop-i
+invariant-loop-i l = (l.i + 1 ≤ l.n) × (length l.seg ≡ length l.initial.seg) × (take l.i (items l.seg) ++ drop (l.i + 1) (take l.n (items l.seg)) ≡ take l.k (items l.initial.seg) ++ drop (l.k + 1) (take l.n (items l.initial.seg)))
+
+abbrev pub decreases-loop-i : goal.decreases-loop-i
+decreases-loop-i l = l.n - l.i
