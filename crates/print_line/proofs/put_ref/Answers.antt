@@ -1,0 +1,23 @@
+use Rattle.print_field.proofs.Parts.{left-done, left-first, left-room, left-turn}
+use Rattle.print_line.specs.Lines.{ref_line}
+use Rattle.print_line.proofs.put_ref.Goals as goal
+
+pub put_text-a-requires : goal.put_text-a-requires
+unfolding ref_line
+put_text-a-requires c = left-room (left-first _ _ c.args.out.now c.requires)
+
+pub put_field-b-requires : goal.put_field-b-requires
+unfolding ref_line
+put_field-b-requires c = left-room (left-turn (left-first _ _ c.args.out.now c.requires) c.put_text-a.ensures)
+
+pub put_field-c-requires : goal.put_field-c-requires
+unfolding ref_line
+put_field-c-requires c = left-room (left-turn (left-turn (left-first _ _ c.args.out.now c.requires) c.put_text-a.ensures) c.put_field-b.ensures)
+
+pub put_text-requires : goal.put_text-requires
+unfolding ref_line
+put_text-requires c = left-room (left-turn (left-turn (left-turn (left-first _ _ c.args.out.now c.requires) c.put_text-a.ensures) c.put_field-b.ensures) c.put_field-c.ensures)
+
+pub returns : goal.returns
+unfolding ref_line
+returns c = left-done (left-turn (left-turn (left-turn (left-turn (left-first _ _ c.args.out.now c.requires) c.put_text-a.ensures) c.put_field-b.ensures) c.put_field-c.ensures) c.put_text.ensures)
