@@ -1,0 +1,15 @@
+use mathlib.Core.Path.{◌≡◌, ◌∙◌, refl, ap}
+use Prim.Native.Nat.{ℕ, ◌+◌, ◌-◌, ◌≤◌}
+use native.Mathlib.Nat.{zero-add}
+use lib.Dec.{eqb}
+use lib.ListN.{length, get_or}
+use Rattle.records.specs.Select.{count}
+use Rattle.records.proofs.Loops.{rest, head, rest-ones, head_at, count_turn, count-done, one_more}
+use native.Mathlib.Omega.{arith}
+use Rattle.apply_counts.proofs.count_zeros.Given as goal
+
+abbrev pub invariant-loop-i : goal.invariant-loop-i
+invariant-loop-i l = (l.i ≤ l.i-end) × (l.i-end ≡ length l.marks) × (l.n ≤ l.i) × (l.n + count (λ (b : ℕ). eqb b 0) (rest head 1 l.marks (length l.marks) l.i) ≡ count (λ (b : ℕ). eqb b 0) l.marks)
+
+abbrev pub decreases-loop-i : goal.decreases-loop-i
+decreases-loop-i l = l.i-end - l.i

@@ -1,0 +1,36 @@
+use mathlib.Core.Path.{◌≡◌, ◌∙◌, refl}
+use borrow.Author.Tests.{not-true, not-false}
+use Prim.Native.Nat.{◌-◌, ◌/◌, ◌≤◌}
+use lib.ListN.{length, drop}
+use Rattle.records.specs.Stages.{unless}
+use Rattle.table.specs.Rows.{rows}
+use Rattle.table.proofs.Laws.{rows-length}
+use Rattle.apply_counts.specs.Counts.{nets_from}
+use Rattle.apply_counts.proofs.Nets.{nets_turn, nets_stop, nets_done}
+use native.Mathlib.Omega.{arith}
+use borrow.Author.Rules.{rules}
+use Rattle.apply_counts.proofs.nets_refusal.Goals as goal
+
+pub loop-k-init : goal.loop-k-init
+loop-k-init c = (omega arith, omega arith, refl)
+
+pub offset_bounds-gained-k : goal.offset_bounds-gained-k
+offset_bounds-gained-k c = omega (arith, rows-length c.args.table.now, c.requires, c.well_formed)
+
+pub bounds-gained-k : goal.bounds-gained-k
+bounds-gained-k c = omega (arith, rows-length c.args.table.now, c.requires)
+
+pub offset_bounds-lost-k : goal.offset_bounds-lost-k
+offset_bounds-lost-k c = omega (arith, rows-length c.args.table.now, c.requires, c.well_formed)
+
+pub bounds-lost-k : goal.bounds-lost-k
+bounds-lost-k c = omega (arith, rows-length c.args.table.now, c.requires)
+
+pub returns-then-not-net_fits : goal.returns-then-not-net_fits
+returns-then-not-net_fits c = nets_stop _ _ c.args.table.now c.loop-k.k _ _ (omega arith) c.row_at-row.ensures c.net_fits.ensures c.if-not-net_fits.true ∙ c.loop-k.invariant.2
+
+pub loop-k-preserved : goal.loop-k-preserved
+loop-k-preserved c = (omega arith, c.loop-k.invariant.1, nets_turn _ _ c.args.table.now c.loop-k.k _ _ (omega arith) c.row_at-row.ensures c.net_fits.ensures c.if-not-net_fits.false ∙ c.loop-k.invariant.2)
+
+pub returns : goal.returns
+returns c = nets_done _ _ c.args.table.now c.loop-k.k (omega arith) ∙ c.loop-k.invariant.2

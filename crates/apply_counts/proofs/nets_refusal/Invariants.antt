@@ -1,0 +1,18 @@
+use mathlib.Core.Path.{◌≡◌, ◌∙◌, refl}
+use borrow.Author.Tests.{not-true, not-false}
+use Prim.Native.Nat.{◌-◌, ◌/◌, ◌≤◌}
+use lib.ListN.{length, drop}
+use Rattle.records.specs.Stages.{unless}
+use Rattle.table.specs.Rows.{rows}
+use Rattle.table.proofs.Laws.{rows-length}
+use Rattle.apply_counts.specs.Counts.{nets_from}
+use Rattle.apply_counts.proofs.Nets.{nets_turn, nets_stop, nets_done}
+use native.Mathlib.Omega.{arith}
+use borrow.Author.Rules.{rules}
+use Rattle.apply_counts.proofs.nets_refusal.Given as goal
+
+abbrev pub invariant-loop-k : goal.invariant-loop-k
+invariant-loop-k l = (l.k ≤ l.k-end) × (l.k-end ≡ length l.table / 5) × (unless (nets_from l.gained l.lost l.k (drop l.k (rows l.table))) 3 ≡ unless (nets_from l.gained l.lost 0 (rows l.table)) 3)
+
+abbrev pub decreases-loop-k : goal.decreases-loop-k
+decreases-loop-k l = l.k-end - l.k
