@@ -1,0 +1,8 @@
+use mathlib.Core.Path.{◌∙◌, sym}
+use borrow.Author.Rules.{rules}
+use Rattle.table.specs.Rows.{rows}
+use Rattle.apply_clear.proofs.Clear.{all_clear}
+use Rattle.apply_clear.proofs.is_clear_of_rows.Goals as goal
+
+pub returns-then-place_clear : goal.returns-then-place_clear
+returns-then-place_clear c = sym (all_clear c.args.gone.now 0 _ _ (rows c.args.table.now) (sym c.place_clear.ensures ∙ c.if-place_clear.true))
