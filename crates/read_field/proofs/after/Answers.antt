@@ -1,3 +1,4 @@
+-- The place by the test of `starts_at`.
 use Rattle.read_field.specs.Words.{behind}
 use Rattle.records.proofs.Tests.{cond_yes, cond_no}
 use mathlib.Core.Path.{sym, ◌∙◌}

@@ -1,3 +1,4 @@
+-- All digits were read (`Ended`).
 use mathlib.Core.Path.{sym, ◌∙◌}
 use Rattle.read_field.proofs.Runs.{ended_yes, ended_no}
 use Rattle.read_field.proofs.ended.Goals as goal

@@ -1,3 +1,4 @@
+-- A field that is there is its name, its numbers and its bracket.
 use lib.ListN.{replicate}
 use Rattle.read_field.proofs.Steps.{field-there, field-missing}
 use Rattle.read_field.proofs.field.Goals as goal

@@ -1,3 +1,4 @@
+-- A run of digits by its length and first digit.
 use Rattle.read_field.proofs.Runs.{plain_short, plain-long}
 use Rattle.read_field.proofs.is_plain.Goals as goal
 

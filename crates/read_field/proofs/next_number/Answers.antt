@@ -1,3 +1,4 @@
+-- The place behind the space, and the number there.
 use Rattle.read_field.proofs.Steps.{number_is}
 use Rattle.read_field.proofs.next_number.Goals as goal
 

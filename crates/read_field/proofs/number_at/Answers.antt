@@ -1,3 +1,4 @@
+-- Past the text's end there is no number.
 use mathlib.Core.Path.{◌∙◌}
 use Rattle.read_field.proofs.Runs.{number-outside}
 use Rattle.read_field.proofs.number_at.Goals as goal

@@ -1,3 +1,4 @@
+-- The place behind the word.
 use Rattle.read_field.proofs.Steps.{skip_is}
 use Rattle.read_field.proofs.skip.Goals as goal
 

@@ -1,3 +1,4 @@
+-- The test of the line's end.
 use Rattle.read_line.proofs.Whole.{finish_yes, finish_no}
 use Rattle.read_line.proofs.finish.Goals as goal
 

@@ -1,3 +1,4 @@
+-- The place behind the word.
 use Rattle.read_line.proofs.Whole.{open_is}
 use Rattle.read_line.proofs.open.Goals as goal
 

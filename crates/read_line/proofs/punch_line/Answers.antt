@@ -1,3 +1,4 @@
+-- The line step by step: its word, its fields, its end.
 use borrow.Author.Tests.{leb-true}
 use native.Mathlib.Omega.{arith}
 use mathlib.Core.List.{[], ◌∷◌}

@@ -1,3 +1,4 @@
+-- The first row whose word opens the line reads it.
 use borrow.Author.Tests.{leb-true}
 use mathlib.Core.Path.{refl, sym, ◌∙◌}
 use Rattle.read_line.specs.Raw.{shape_at}

@@ -1,3 +1,4 @@
+-- The first of the last four rows whose word opens the line reads it.
 use lib.ListN.{drop}
 use borrow.Author.Tests.{leb-true}
 use mathlib.Core.Path.{refl, sym, ◌∙◌}
