@@ -2,26 +2,39 @@
 // "extplan"). The library `extplan_reply` reads, plans and prints; here are the buffers, reading and writing.
 #![tactic(auto)]
 
-ghost use Rattle.std.specs.Prelude.{◌≡◌, ◌≤◌, length};
+ghost use Rattle.std.specs.Prelude.{◌≡◌, ◌≤◌, IfOk, length};
 ghost use Rattle.plan_def.specs.Outputs.{outs};
 ghost use Rattle.extplan_reply.specs.Replies.{Replied};
 
 use extplan_reply::Reply;
-use libc::{STDIN_FILENO, STDOUT_FILENO};
+use std::io;
+use std::io::Read;
 
-// Writes the first k bytes of a buffer, and says whether it could.
-fn write_part(line: &[u8], k: usize) -> bool
-    requires { k ≤ length line.now }
+// Reads until the buffer is full or the input ends, and returns how many bytes it put at the start of it.
+fn read_full(from: &mut impl Read, buffer: &mut [u8]) -> io::Result<usize>
+    ensures { IfOk result (λ n. n ≤ length buffer.new) }
 {
-    let written = io::write_all(STDOUT_FILENO, &line[..k]);
-    if !written {
-        os::fail(b"write");
+    let mut done = 0;
+    while done < buffer.len() {
+        let n = from.read(&mut buffer[done..])?;
+        if n == 0 {
+            return Ok(done);
+        }
+        done += n;
     }
-    written
+    Ok(done)
 }
 
-// Writes line n of the answer, whole; false if there is none, or it can't be written.
+// Writes the first k bytes of a buffer.
+fn write_part(rt: &impl Print, line: &[u8], k: usize) -> io::Result<()>
+    requires { k ≤ length line.now }
+{
+    rt.write_all(&line[..k])
+}
+
+// Writes line n of the answer, whole; false if there is none.
 fn write_line(
+    rt: &impl Print,
     input: &[u8],
     r: Reply,
     edits: &[u8],
@@ -32,7 +45,7 @@ fn write_line(
     writes: &[u64],
     n: usize,
     line: &mut [u8],
-) -> bool
+) -> io::Result<bool>
     requires replied { Replied input.now r (outs edits.now shares.now unrefs.now releases.now adds.now writes.now) }
     requires in_bounds { 256 ≤ length line.old }
 {
@@ -40,13 +53,15 @@ fn write_line(
         input, r, edits, shares, unrefs, releases, adds, writes, n, line,
     );
     if k == 0 {
-        return false;
+        return Ok(false);
     }
-    write_part(line, k)
+    write_part(rt, line, k)?;
+    Ok(true)
 }
 
 // Writes the answer line by line. No answer has a million lines.
 fn write_lines(
+    rt: &impl Print,
     input: &[u8],
     r: Reply,
     edits: &[u8],
@@ -56,19 +71,20 @@ fn write_lines(
     adds: &[u64],
     writes: &[u64],
     line: &mut [u8],
-)
+) -> io::Result<()>
     requires replied { Replied input.now r (outs edits.now shares.now unrefs.now releases.now adds.now writes.now) }
     requires in_bounds { 256 ≤ length line.old }
 {
     let mut n: usize = 0;
     while n < 1000000 {
         if !write_line(
-            input, r, edits, shares, unrefs, releases, adds, writes, n, line,
-        ) {
-            return;
+            rt, input, r, edits, shares, unrefs, releases, adds, writes, n, line,
+        )? {
+            return Ok(());
         }
         n += 1;
     }
+    Ok(())
 }
 
 // The two largest buffers, by functions: only their lengths are asked about.
@@ -86,7 +102,7 @@ fn edit_buffer() -> [u8; 2658808]
 
 // The answer to an input, with the buffers that it takes: 9,362 items, 7,281 extents, 6,553 places, and for outputs what
 // `enough` (crate plan_bounds) says.
-fn answer(input: &[u8])
+fn answer(rt: &impl Print, input: &[u8]) -> io::Result<()>
     requires { length input.now ≤ 65536 }
 {
     let mut items = item_buffer();
@@ -114,30 +130,29 @@ fn answer(input: &[u8])
         &mut writes,
     );
     write_lines(
-        input, r, &edits, &shares, &unrefs, &releases, &adds, &writes, &mut line,
-    );
+        rt, input, r, &edits, &shares, &unrefs, &releases, &adds, &writes, &mut line,
+    )
 }
 
 // "more bytes `(line 0)`"
-fn refuse_length() {
+fn refuse_length(rt: &impl Print) -> io::Result<()> {
     let mut room = [0u8; 256];
     let line: &mut [u8] = &mut room;
     let k = print_answer::put_fault(0, line);
-    write_part(line, k);
+    write_part(rt, line, k)
 }
 
-fn main() {
+fn main(rt: HostRuntime) -> io::Result<()> {
+    let mut stdin = rt.stdin();
     let mut input = [0u8; 65536];
-    let n = io::read_full(STDIN_FILENO, &mut input);
+    let n = read_full(&mut stdin, &mut input)?;
     let mut more = [0u8; 1];
-    let got = libc::read(STDIN_FILENO, &mut more);
+    let got = stdin.read(&mut more)?;
     if got == 0 {
-        answer(&input[..n]);
-        return;
+        return answer(&rt, &input[..n]);
     }
-    if got > 0 && n == 65536 {
-        refuse_length();
-        return;
+    if n == 65536 {
+        return refuse_length(&rt);
     }
-    os::fail(b"read");
+    Err(io::Error::other("read"))
 }

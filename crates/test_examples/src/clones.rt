@@ -8,6 +8,7 @@ use request::{File, Volume};
 
 // Runs a clone and prints its answer and outputs; the caller lends `edits`, filled with 165.
 fn run_in<'a>(
+    rt: &impl Print,
     name: &[u8],
     v: Volume,
     dst: File,
@@ -38,9 +39,9 @@ fn run_in<'a>(
         &mut unrefs,
         &mut releases,
     );
-    print::text(name);
-    print::answer(answer);
-    print::outputs(answer, edits, &shares, &unrefs, &releases, &[], &[]);
+    print::text(rt, name);
+    print::answer(rt, answer);
+    print::outputs(rt, answer, edits, &shares, &unrefs, &releases, &[], &[]);
 }
 
 fn span(from: u64, to: u64, length: u64) -> CloneRange {
@@ -81,8 +82,9 @@ fn rows(bytes: u64, keyed: u64) -> [u64; 10]
 }
 
 // Into a file without items, of size 0.
-fn into_empty(name: &[u8], from: u64, to: u64, length: u64) {
+fn into_empty(rt: &impl Print, name: &[u8], from: u64, to: u64, length: u64) {
     run_in(
+        rt,
         name,
         lent::volume(),
         other(0),
@@ -99,6 +101,7 @@ fn into_empty(name: &[u8], from: u64, to: u64, length: u64) {
 
 // The same of the whole file, where the volume, the source, the row of its extent or the room for edits differs.
 fn into_empty_on(
+    rt: &impl Print,
     name: &[u8],
     v: Volume,
     src: File,
@@ -107,6 +110,7 @@ fn into_empty_on(
     edits: &mut [u8],
 ) {
     run_in(
+        rt,
         name,
         v,
         other(0),
@@ -122,8 +126,9 @@ fn into_empty_on(
 }
 
 // Into a file of 16384 bytes in one item, of this kind and with this shared byte.
-fn into_other(name: &[u8], kind: u64, shared: u8, to: u64, length: u64) {
+fn into_other(rt: &impl Print, name: &[u8], kind: u64, shared: u8, to: u64, length: u64) {
     run_in(
+        rt,
         name,
         lent::volume(),
         other(16384),
@@ -163,8 +168,9 @@ fn two_items() -> [u8; 140]
     list
 }
 
-fn several_items() {
+fn several_items(rt: &impl Print) {
     run_in(
+        rt,
         b"several items",
         lent::volume(),
         other(16384),
@@ -183,7 +189,7 @@ fn several_items() {
 }
 
 // Two items of one extent that go, at keys that no copy has.
-fn two_deletes() {
+fn two_deletes(rt: &impl Print) {
     let mut list = [0u8; 140];
     item::put_item(&mut list, 0, other_item(4096, 1, 4194304, 8192, 0, 4096));
     item::put_item(
@@ -192,6 +198,7 @@ fn two_deletes() {
         other_item(12288, 1, 4194304, 8192, 4096, 4096),
     );
     run_in(
+        rt,
         b"two deletes",
         lent::volume(),
         other(16384),
@@ -208,8 +215,9 @@ fn two_deletes() {
 
 // ---- within the worked examples' file, of this size
 
-fn within(name: &[u8], size: u64, from: u64, to: u64, length: u64) {
+fn within(rt: &impl Print, name: &[u8], size: u64, from: u64, to: u64, length: u64) {
     run_in(
+        rt,
         name,
         lent::volume(),
         lent::file(size),
@@ -227,8 +235,9 @@ fn within(name: &[u8], size: u64, from: u64, to: u64, length: u64) {
 // ---- refusals
 
 // The whole file into an empty one, where the row of its extent or the room for edits differs.
-fn whole(name: &[u8], table: &[u64], edits: &mut [u8]) {
+fn whole(rt: &impl Print, name: &[u8], table: &[u64], edits: &mut [u8]) {
     into_empty_on(
+        rt,
         name,
         lent::volume(),
         lent::file(16384),
@@ -239,18 +248,19 @@ fn whole(name: &[u8], table: &[u64], edits: &mut [u8]) {
 }
 
 // 14, 15, 17, 27.
-fn table_refusals() {
-    whole(b"no row", &[], &mut [165u8; 284]);
-    whole(b"keyed", &rows(16384, 1), &mut [165u8; 284]);
-    whole(b"window outside", &rows(12288, 0), &mut [165u8; 284]);
-    whole(b"edits too short", &rows(16384, 0), &mut [165u8; 70]);
+fn table_refusals(rt: &impl Print) {
+    whole(rt, b"no row", &[], &mut [165u8; 284]);
+    whole(rt, b"keyed", &rows(16384, 1), &mut [165u8; 284]);
+    whole(rt, b"window outside", &rows(12288, 0), &mut [165u8; 284]);
+    whole(rt, b"edits too short", &rows(16384, 0), &mut [165u8; 70]);
 }
 
 // 2, 13.
-fn lent_refusals() {
+fn lent_refusals(rt: &impl Print) {
     let source = lent::list_of(1, 1048576);
     let mut v = lent::volume();
     into_empty_on(
+        rt,
         b"second list of one number",
         v,
         other(16384),
@@ -260,6 +270,7 @@ fn lent_refusals() {
     );
     v.generation = 18446744073709551615;
     into_empty_on(
+        rt,
         b"last generation",
         v,
         lent::file(16384),
@@ -270,29 +281,30 @@ fn lent_refusals() {
 }
 
 // 19 to 22, nothing, 6, 23 to 25, 7, 8.
-fn range_refusals() {
-    into_empty(b"start past the end", 16385, 1, 1);
-    into_empty(b"end past the end", 16383, 1, 2);
-    within(b"P10 size 100", 100, 100, 32768, 0);
-    into_empty(b"length inside", 0, 0, 100);
-    within(b"P10", 16384, 16384, 32768, 0);
-    into_empty(b"nothing before 6", 16384, 9223372036854775808, 0);
-    into_empty(b"largest offset", 0, 9223372036854771712, 4096);
-    within(b"partial sector inside", 8193, 8192, 4096, 1);
-    within(b"overlap", 16384, 0, 4096, 8192);
-    within(b"growing inside a sector", 100, 0, 4096, 100);
-    into_other(b"inline destination", 0, 0, 4096, 4096);
-    into_other(b"destination of kind 3", 3, 0, 4096, 4096);
+fn range_refusals(rt: &impl Print) {
+    into_empty(rt, b"start past the end", 16385, 1, 1);
+    into_empty(rt, b"end past the end", 16383, 1, 2);
+    within(rt, b"P10 size 100", 100, 100, 32768, 0);
+    into_empty(rt, b"length inside", 0, 0, 100);
+    within(rt, b"P10", 16384, 16384, 32768, 0);
+    into_empty(rt, b"nothing before 6", 16384, 9223372036854775808, 0);
+    into_empty(rt, b"largest offset", 0, 9223372036854771712, 4096);
+    within(rt, b"partial sector inside", 8193, 8192, 4096, 1);
+    within(rt, b"overlap", 16384, 0, 4096, 8192);
+    within(rt, b"growing inside a sector", 100, 0, 4096, 100);
+    into_other(rt, b"inline destination", 0, 0, 4096, 4096);
+    into_other(rt, b"destination of kind 3", 3, 0, 4096, 4096);
 }
 
-pub fn all() {
-    into_empty(b"whole", 0, 0, 16384);
-    into_empty(b"P11", 4096, 0, 8192);
-    into_empty(b"to the end", 8192, 16384, 0);
-    into_other(b"split", 1, 0, 4096, 4096);
-    into_other(b"released", 1, 0, 0, 16384);
-    into_other(b"leaf shared", 1, 1, 0, 16384);
+pub fn all(rt: &impl Print) {
+    into_empty(rt, b"whole", 0, 0, 16384);
+    into_empty(rt, b"P11", 4096, 0, 8192);
+    into_empty(rt, b"to the end", 8192, 16384, 0);
+    into_other(rt, b"split", 1, 0, 4096, 4096);
+    into_other(rt, b"released", 1, 0, 0, 16384);
+    into_other(rt, b"leaf shared", 1, 1, 0, 16384);
     into_empty_on(
+        rt,
         b"holes only",
         lent::volume(),
         lent::file(16384),
@@ -300,11 +312,11 @@ pub fn all() {
         &[],
         &mut [165u8; 70],
     );
-    several_items();
-    two_deletes();
-    within(b"within one file", 16384, 0, 16384, 8192);
-    within(b"touching", 16384, 0, 8192, 8192);
-    range_refusals();
-    lent_refusals();
-    table_refusals();
+    several_items(rt);
+    two_deletes(rt);
+    within(rt, b"within one file", 16384, 0, 16384, 8192);
+    within(rt, b"touching", 16384, 0, 8192, 8192);
+    range_refusals(rt);
+    lent_refusals(rt);
+    table_refusals(rt);
 }

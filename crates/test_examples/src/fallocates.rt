@@ -8,8 +8,18 @@ use test_call::Operation;
 // ---- the worked examples' file, of one item
 
 // A fallocate of that file, where the volume, the file or the item differs.
-fn alloc_on(name: &[u8], keep: bool, v: Volume, f: File, r: Range, list: &[u8], places: &[u64]) {
+fn alloc_on(
+    rt: &impl Print,
+    name: &[u8],
+    keep: bool,
+    v: Volume,
+    f: File,
+    r: Range,
+    list: &[u8],
+    places: &[u64],
+) {
     lent::run(
+        rt,
         name,
         Operation::Fallocate(keep),
         v,
@@ -23,8 +33,18 @@ fn alloc_on(name: &[u8], keep: bool, v: Volume, f: File, r: Range, list: &[u8], 
 }
 
 // A fallocate of that file, with an item of this kind and of this size.
-fn alloc(name: &[u8], keep: bool, kind: u64, size: u64, offset: u64, length: u64, places: &[u64]) {
+fn alloc(
+    rt: &impl Print,
+    name: &[u8],
+    keep: bool,
+    kind: u64,
+    size: u64,
+    offset: u64,
+    length: u64,
+    places: &[u64],
+) {
     alloc_on(
+        rt,
         name,
         keep,
         lent::volume(),
@@ -38,8 +58,9 @@ fn alloc(name: &[u8], keep: bool, kind: u64, size: u64, offset: u64, length: u64
 // ---- a file without items
 
 // A fallocate of it from 0 on.
-fn alloc_empty(name: &[u8], v: Volume, size: u64, length: u64, places: &[u64]) {
+fn alloc_empty(rt: &impl Print, name: &[u8], v: Volume, size: u64, length: u64, places: &[u64]) {
     lent::run(
+        rt,
         name,
         Operation::Fallocate(false),
         v,
@@ -69,6 +90,7 @@ fn two_items() -> [u8; 140]
 
 // A fallocate of it from 0 on, where the room for edits and adds may differ.
 fn alloc_two_in(
+    rt: &impl Print,
     name: &[u8],
     size: u64,
     length: u64,
@@ -77,6 +99,7 @@ fn alloc_two_in(
     adds: &mut [u64],
 ) {
     lent::run_in(
+        rt,
         name,
         Operation::Fallocate(false),
         lent::volume(),
@@ -92,8 +115,9 @@ fn alloc_two_in(
 }
 
 // The same, with room for six of each.
-fn alloc_two(name: &[u8], size: u64, length: u64, places: &[u64]) {
+fn alloc_two(rt: &impl Print, name: &[u8], size: u64, length: u64, places: &[u64]) {
     alloc_two_in(
+        rt,
         name,
         size,
         length,
@@ -105,11 +129,12 @@ fn alloc_two(name: &[u8], size: u64, length: u64, places: &[u64]) {
 
 // ---- the cases
 
-fn worked() {
-    alloc(b"P5", false, 1, 16384, 16384, 1, &[4194304]);
-    alloc(b"P6", false, 1, 16384, 0, 16384, &[]);
-    alloc(b"P7", false, 1, 16384, 4096, 0, &[]);
+fn worked(rt: &impl Print) {
+    alloc(rt, b"P5", false, 1, 16384, 16384, 1, &[4194304]);
+    alloc(rt, b"P6", false, 1, 16384, 0, 16384, &[]);
+    alloc(rt, b"P7", false, 1, 16384, 4096, 0, &[]);
     alloc(
+        rt,
         b"P8 length 1",
         false,
         1,
@@ -119,6 +144,7 @@ fn worked() {
         &[4194304],
     );
     alloc(
+        rt,
         b"P8 length 2",
         false,
         1,
@@ -127,8 +153,16 @@ fn worked() {
         2,
         &[4194304],
     );
-    alloc_empty(b"P9 268435456", lent::volume(), 0, 268435456, &[4194304]);
     alloc_empty(
+        rt,
+        b"P9 268435456",
+        lent::volume(),
+        0,
+        268435456,
+        &[4194304],
+    );
+    alloc_empty(
+        rt,
         b"P9 268435457",
         lent::volume(),
         0,
@@ -138,9 +172,19 @@ fn worked() {
 }
 
 // The size at the end of a sector: it is moved, or kept.
-fn sizes() {
-    alloc(b"past the size", false, 1, 16384, 16384, 5000, &[4194304]);
+fn sizes(rt: &impl Print) {
     alloc(
+        rt,
+        b"past the size",
+        false,
+        1,
+        16384,
+        16384,
+        5000,
+        &[4194304],
+    );
+    alloc(
+        rt,
         b"past the size, kept",
         true,
         1,
@@ -152,8 +196,9 @@ fn sizes() {
 }
 
 // The size inside a sector, which is rewritten if the range ends past the size.
-fn old_ends() {
+fn old_ends(rt: &impl Print) {
     alloc(
+        rt,
         b"old end",
         false,
         1,
@@ -163,6 +208,7 @@ fn old_ends() {
         &[4194304, 8388608],
     );
     alloc(
+        rt,
         b"old end, kept",
         true,
         1,
@@ -172,6 +218,7 @@ fn old_ends() {
         &[4194304, 8388608],
     );
     alloc(
+        rt,
         b"old end in place",
         false,
         2,
@@ -183,8 +230,9 @@ fn old_ends() {
 }
 
 // Its sector outside the range, the range up to the size and one byte past it, and no item at all.
-fn old_end_edges() {
+fn old_end_edges(rt: &impl Print) {
     alloc(
+        rt,
         b"old end outside",
         false,
         1,
@@ -193,9 +241,19 @@ fn old_end_edges() {
         4096,
         &[4194304, 8388608],
     );
-    alloc(b"old end reached", false, 1, 16000, 12288, 3712, &[]);
-    alloc(b"old end passed", false, 1, 16000, 12288, 3713, &[4194304]);
+    alloc(rt, b"old end reached", false, 1, 16000, 12288, 3712, &[]);
+    alloc(
+        rt,
+        b"old end passed",
+        false,
+        1,
+        16000,
+        12288,
+        3713,
+        &[4194304],
+    );
     alloc_empty(
+        rt,
         b"old end in a hole",
         lent::volume(),
         5000,
@@ -205,14 +263,16 @@ fn old_end_edges() {
 }
 
 // Pieces before, between and behind items; the old end's sector is the second item whole.
-fn between_items() {
+fn between_items(rt: &impl Print) {
     alloc_two(
+        rt,
         b"between items",
         20480,
         24576,
         &[4194304, 8388608, 12582912],
     );
     alloc_two(
+        rt,
         b"between items, old end",
         20000,
         24576,
@@ -221,8 +281,9 @@ fn between_items() {
 }
 
 // A fallocate of a sector, where the file's item is a hole.
-fn alloc_hole(name: &[u8], offset: u64, places: &[u64]) {
+fn alloc_hole(rt: &impl Print, name: &[u8], offset: u64, places: &[u64]) {
     alloc_on(
+        rt,
         name,
         false,
         lent::volume(),
@@ -237,13 +298,20 @@ fn alloc_hole(name: &[u8], offset: u64, places: &[u64]) {
 }
 
 // 10 and 11, and what is near to them.
-fn item_refusals() {
-    alloc_hole(b"hole record in the range", 0, &[]);
-    alloc_hole(b"hole record outside", 16384, &[4194304]);
-    alloc_two(b"regular at the size", 16384, 24576, &[]);
-    alloc_two(b"regular past the size", 12288, 24576, &[]);
-    alloc_two(b"regular past the range", 8192, 16384, &[4194304, 4198400]);
+fn item_refusals(rt: &impl Print) {
+    alloc_hole(rt, b"hole record in the range", 0, &[]);
+    alloc_hole(rt, b"hole record outside", 16384, &[4194304]);
+    alloc_two(rt, b"regular at the size", 16384, 24576, &[]);
+    alloc_two(rt, b"regular past the size", 12288, 24576, &[]);
+    alloc_two(
+        rt,
+        b"regular past the range",
+        8192,
+        16384,
+        &[4194304, 4198400],
+    );
     alloc(
+        rt,
         b"regular reaching past the size",
         false,
         1,
@@ -252,24 +320,25 @@ fn item_refusals() {
         16384,
         &[],
     );
-    alloc(b"preallocated at the size", false, 2, 0, 0, 16384, &[]);
+    alloc(rt, b"preallocated at the size", false, 2, 0, 0, 16384, &[]);
 }
 
 // 12, at its limit.
-fn volume_refusals() {
+fn volume_refusals(rt: &impl Print) {
     let mut v = lent::volume();
     v.total = 8192;
-    alloc_empty(b"holes of the volume's bytes", v, 0, 8192, &[4194304]);
-    alloc_empty(b"one sector more", v, 0, 12288, &[4194304]);
+    alloc_empty(rt, b"holes of the volume's bytes", v, 0, 8192, &[4194304]);
+    alloc_empty(rt, b"one sector more", v, 0, 12288, &[4194304]);
 }
 
 // 13, due for a plan without edits too, and 16.
-fn change_refusals() {
+fn change_refusals(rt: &impl Print) {
     let mut v = lent::volume();
     v.generation = 18446744073709551615;
     let mut f = lent::file(16000);
     f.nodatacow = true;
     alloc_on(
+        rt,
         b"last generation",
         false,
         v,
@@ -282,6 +351,7 @@ fn change_refusals() {
         &[],
     );
     alloc_on(
+        rt,
         b"nodatacow",
         false,
         lent::volume(),
@@ -296,11 +366,12 @@ fn change_refusals() {
 }
 
 // 26; places that only touch stand above.
-fn place_refusals() {
-    alloc(b"place missing", false, 1, 16384, 16384, 1, &[]);
-    alloc(b"place too many", false, 1, 16384, 0, 16384, &[4194304]);
-    alloc_two(b"places meet", 8192, 16384, &[4194304, 4198399]);
+fn place_refusals(rt: &impl Print) {
+    alloc(rt, b"place missing", false, 1, 16384, 16384, 1, &[]);
+    alloc(rt, b"place too many", false, 1, 16384, 0, 16384, &[4194304]);
+    alloc_two(rt, b"places meet", 8192, 16384, &[4194304, 4198399]);
     alloc(
+        rt,
         b"place in a table extent",
         false,
         1,
@@ -312,22 +383,23 @@ fn place_refusals() {
 }
 
 // A fallocate that makes two edits and two adds.
-fn alloc_room(name: &[u8], edits: &mut [u8], adds: &mut [u64]) {
-    alloc_two_in(name, 8192, 16384, &[4194304, 8388608], edits, adds);
+fn alloc_room(rt: &impl Print, name: &[u8], edits: &mut [u8], adds: &mut [u64]) {
+    alloc_two_in(rt, name, 8192, 16384, &[4194304, 8388608], edits, adds);
 }
 
 // 27, at its limit.
-fn room_refusals() {
-    alloc_room(b"just enough room", &mut [165u8; 142], &mut [165u64; 6]);
-    alloc_room(b"adds too short", &mut [165u8; 142], &mut [165u64; 5]);
-    alloc_room(b"edits too short", &mut [165u8; 141], &mut [165u64; 6]);
+fn room_refusals(rt: &impl Print) {
+    alloc_room(rt, b"just enough room", &mut [165u8; 142], &mut [165u64; 6]);
+    alloc_room(rt, b"adds too short", &mut [165u8; 142], &mut [165u64; 5]);
+    alloc_room(rt, b"edits too short", &mut [165u8; 141], &mut [165u64; 6]);
 }
 
 // A hole of 2^63 bytes, 2^35 pieces: 26, at once.
-fn largest() {
+fn largest(rt: &impl Print) {
     let mut v = lent::volume();
     v.total = 18446744073709551615;
     alloc_empty(
+        rt,
         b"2^63 bytes, sector 4096",
         v,
         0,
@@ -336,6 +408,7 @@ fn largest() {
     );
     v.sector = 65536;
     alloc_empty(
+        rt,
         b"2^63 bytes, sector 65536",
         v,
         0,
@@ -344,16 +417,16 @@ fn largest() {
     );
 }
 
-pub fn all() {
-    worked();
-    sizes();
-    old_ends();
-    old_end_edges();
-    between_items();
-    item_refusals();
-    volume_refusals();
-    change_refusals();
-    place_refusals();
-    room_refusals();
-    largest();
+pub fn all(rt: &impl Print) {
+    worked(rt);
+    sizes(rt);
+    old_ends(rt);
+    old_end_edges(rt);
+    between_items(rt);
+    item_refusals(rt);
+    volume_refusals(rt);
+    change_refusals(rt);
+    place_refusals(rt);
+    room_refusals(rt);
+    largest(rt);
 }

@@ -71,6 +71,7 @@ pub fn row(bytes: u64, keyed: u64) -> [u64; 5]
 // Runs an operation and prints its answer and outputs. The caller lends `edits` and `adds`, filled with 165, as some
 // cases have them too short; the other outputs are ours.
 pub fn run_in(
+    rt: &impl Print,
     name: &[u8],
     operation: Operation,
     v: Volume,
@@ -103,13 +104,16 @@ pub fn run_in(
         adds,
         &mut writes,
     );
-    print::text(name);
-    print::answer(answer);
-    print::outputs(answer, edits, &shares, &unrefs, &releases, adds, &writes);
+    print::text(rt, name);
+    print::answer(rt, answer);
+    print::outputs(
+        rt, answer, edits, &shares, &unrefs, &releases, adds, &writes,
+    );
 }
 
 // The same, with room for six edits and six adds.
 pub fn run(
+    rt: &impl Print,
     name: &[u8],
     operation: Operation,
     v: Volume,
@@ -121,6 +125,7 @@ pub fn run(
     places: &[u64],
 ) {
     run_in(
+        rt,
         name,
         operation,
         v,

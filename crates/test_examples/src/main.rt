@@ -8,8 +8,8 @@ mod lent;
 mod print;
 mod punches;
 
-fn main() {
-    punches::all();
-    fallocates::all();
-    clones::all();
+fn main(rt: HostRuntime) {
+    punches::all(&rt);
+    fallocates::all(&rt);
+    clones::all(&rt);
 }

@@ -4,18 +4,17 @@ ghost use Rattle.std.specs.Prelude.{◌+◌, ◌≤◌, length};
 use records::both;
 use request::{Answer, Numbers};
 
-pub fn text(s: &[u8]) {
-    io::write_all(1, s);
+pub fn text(rt: &impl Print, s: &[u8]) {
+    let _ = rt.write_all(s);
 }
 
-fn number(n: u64) {
-    text(b" ");
-    io::print_decimal(1, n);
+fn number(rt: &impl Print, n: u64) {
+    let _ = print!(rt; " {n}");
 }
 
-fn named(word: &[u8], n: u64) {
-    text(word);
-    number(n);
+fn named(rt: &impl Print, word: &[u8], n: u64) {
+    text(rt, word);
+    number(rt, n);
 }
 
 // The numbers of a plan; all 0 where there is none.
@@ -41,47 +40,47 @@ fn no_numbers() -> Numbers {
     }
 }
 
-fn numbers(n: Numbers) {
-    text(b" plan");
-    named(b" edits", n.edits as u64);
-    named(b" shares", n.shares as u64);
-    named(b" unrefs", n.unrefs as u64);
-    named(b" releases", n.releases as u64);
-    named(b" adds", n.adds as u64);
-    named(b" writes", n.writes as u64);
-    named(b" size", n.size);
-    named(b" bytes", n.bytes);
-    named(b" prealloc", records::pick(n.prealloc, 1, 0));
+fn numbers(rt: &impl Print, n: Numbers) {
+    text(rt, b" plan");
+    named(rt, b" edits", n.edits as u64);
+    named(rt, b" shares", n.shares as u64);
+    named(rt, b" unrefs", n.unrefs as u64);
+    named(rt, b" releases", n.releases as u64);
+    named(rt, b" adds", n.adds as u64);
+    named(rt, b" writes", n.writes as u64);
+    named(rt, b" size", n.size);
+    named(rt, b" bytes", n.bytes);
+    named(rt, b" prealloc", records::pick(n.prealloc, 1, 0));
 }
 
-pub fn answer(answer: Answer) {
+pub fn answer(rt: &impl Print, answer: Answer) {
     match answer {
-        Answer::Planned(n) => numbers(n),
-        Answer::Nothing => text(b" nothing"),
-        Answer::Refused(why) => named(b" refused", why as u64),
+        Answer::Planned(n) => numbers(rt, n),
+        Answer::Nothing => text(rt, b" nothing"),
+        Answer::Refused(why) => named(rt, b" refused", why as u64),
     }
-    text(b"\n");
+    text(rt, b"\n");
 }
 
 // ---- the lines of an output; `edits` and `lines` answer whether all lines are there and what follows them is 165
 
 // An edit: its tag, key, extent start and length, position, length, kind, generation.
-fn edit(line: &[u8])
+fn edit(rt: &impl Print, line: &[u8])
     requires { 71 ≤ length line.now }
 {
     let item = item::item_at(&line[1..], 0);
-    named(b"  edit", endian::le8_at(line, 0) as u64);
-    number(item.key);
-    number(item.extent_start());
-    number(item.extent_length());
-    number(item.position());
-    number(item.length());
-    number(item.kind() as u64);
-    number(item.generation());
-    text(b"\n");
+    named(rt, b"  edit", endian::le8_at(line, 0) as u64);
+    number(rt, item.key);
+    number(rt, item.extent_start());
+    number(rt, item.extent_length());
+    number(rt, item.position());
+    number(rt, item.length());
+    number(rt, item.kind() as u64);
+    number(rt, item.generation());
+    text(rt, b"\n");
 }
 
-fn edits(out: &[u8], n: usize) -> bool {
+fn edits(rt: &impl Print, out: &[u8], n: usize) -> bool {
     let mut at = 0;
     let mut left = n;
     while 0 < left {
@@ -89,7 +88,7 @@ fn edits(out: &[u8], n: usize) -> bool {
             return false;
         }
         let end = at + 71;
-        edit(&out[at..end]);
+        edit(rt, &out[at..end]);
         at = end;
         left -= 1;
     }
@@ -108,18 +107,18 @@ fn bytes_kept(out: &[u8], from: usize) -> bool {
 }
 
 // One line: all its numbers.
-fn line(word: &[u8], numbers: &[u64]) {
-    text(word);
+fn line(rt: &impl Print, word: &[u8], numbers: &[u64]) {
+    text(rt, word);
     let mut i = 0;
     while i < numbers.len() {
-        number(numbers[i]);
+        number(rt, numbers[i]);
         i += 1;
     }
-    text(b"\n");
+    text(rt, b"\n");
 }
 
 // n lines of w numbers each.
-fn lines(word: &[u8], out: &[u64], n: usize, w: usize) -> bool {
+fn lines(rt: &impl Print, word: &[u8], out: &[u64], n: usize, w: usize) -> bool {
     let mut at = 0;
     let mut left = n;
     while 0 < left {
@@ -127,7 +126,7 @@ fn lines(word: &[u8], out: &[u64], n: usize, w: usize) -> bool {
             return false;
         }
         let end = at + w;
-        line(word, &out[at..end]);
+        line(rt, word, &out[at..end]);
         at = end;
         left -= 1;
     }
@@ -145,16 +144,17 @@ fn numbers_kept(out: &[u64], from: usize) -> bool {
     true
 }
 
-fn rest(kept: bool) {
+fn rest(rt: &impl Print, kept: bool) {
     if kept {
-        text(b"  rest kept\n");
+        text(rt, b"  rest kept\n");
     } else {
-        text(b"  rest changed\n");
+        text(rt, b"  rest changed\n");
     }
 }
 
 // The plan's lines in the six outputs, and whether all else is as it was.
 pub fn outputs(
+    rt: &impl Print,
     answer: Answer,
     e: &[u8],
     shares: &[u64],
@@ -164,11 +164,11 @@ pub fn outputs(
     writes: &[u64],
 ) {
     let n = numbers_of(answer);
-    let mut kept = edits(e, n.edits);
-    kept = both(lines(b"  share", shares, n.shares, 2), kept);
-    kept = both(lines(b"  unref", unrefs, n.unrefs, 2), kept);
-    kept = both(lines(b"  release", releases, n.releases, 2), kept);
-    kept = both(lines(b"  add", adds, n.adds, 3), kept);
-    kept = both(lines(b"  write", writes, n.writes, 4), kept);
-    rest(kept);
+    let mut kept = edits(rt, e, n.edits);
+    kept = both(lines(rt, b"  share", shares, n.shares, 2), kept);
+    kept = both(lines(rt, b"  unref", unrefs, n.unrefs, 2), kept);
+    kept = both(lines(rt, b"  release", releases, n.releases, 2), kept);
+    kept = both(lines(rt, b"  add", adds, n.adds, 3), kept);
+    kept = both(lines(rt, b"  write", writes, n.writes, 4), kept);
+    rest(rt, kept);
 }

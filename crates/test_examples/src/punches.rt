@@ -4,8 +4,9 @@ use request::{File, Range, Volume};
 use test_call::Operation;
 
 // A punch of the worked examples' file, with an item of this kind.
-fn punch(name: &[u8], kind: u64, offset: u64, length: u64, places: &[u64]) {
+fn punch(rt: &impl Print, name: &[u8], kind: u64, offset: u64, length: u64, places: &[u64]) {
     lent::run(
+        rt,
         name,
         Operation::Punch,
         lent::volume(),
@@ -19,8 +20,9 @@ fn punch(name: &[u8], kind: u64, offset: u64, length: u64, places: &[u64]) {
 }
 
 // A punch of that file, where the volume or the file differs; no place is lent.
-fn punch_on(name: &[u8], v: Volume, f: File, offset: u64, length: u64) {
+fn punch_on(rt: &impl Print, name: &[u8], v: Volume, f: File, offset: u64, length: u64) {
     lent::run(
+        rt,
         name,
         Operation::Punch,
         v,
@@ -34,8 +36,9 @@ fn punch_on(name: &[u8], v: Volume, f: File, offset: u64, length: u64) {
 }
 
 // A punch of its second sector, where the shared byte, the extent's row or the room for edits differs.
-fn punch_lent(name: &[u8], shared: u8, bytes: u64, keyed: u64, edits: &mut [u8]) {
+fn punch_lent(rt: &impl Print, name: &[u8], shared: u8, bytes: u64, keyed: u64, edits: &mut [u8]) {
     lent::run_in(
+        rt,
         name,
         Operation::Punch,
         lent::volume(),
@@ -54,7 +57,7 @@ fn punch_lent(name: &[u8], shared: u8, bytes: u64, keyed: u64, edits: &mut [u8])
 }
 
 // A punch over two items of one extent, which goes, and one of another, which someone else holds too.
-fn three_items() {
+fn three_items(rt: &impl Print) {
     let mut list = [0u8; 210];
     item::put_item(&mut list, 0, lent::item(0, 1, 1048576, 16384, 0, 8192));
     item::put_item(&mut list, 70, lent::item(8192, 1, 2097152, 4096, 0, 4096));
@@ -64,6 +67,7 @@ fn three_items() {
         lent::item(12288, 1, 1048576, 16384, 8192, 4096),
     );
     lent::run(
+        rt,
         b"three items",
         Operation::Punch,
         lent::volume(),
@@ -80,38 +84,38 @@ fn three_items() {
 }
 
 // Refusals beyond the worked examples', in the order of their numbers: 1, 3, 4, 7.
-fn early_refusals() {
+fn early_refusals(rt: &impl Print) {
     let mut v = lent::volume();
     v.sector = 0;
-    punch_lent(b"shared byte 2", 2, 16384, 0, &mut [165u8; 284]);
-    punch_lent(b"row of length 0", 0, 0, 0, &mut [165u8; 284]);
-    punch_on(b"sector 0", v, lent::file(16384), 4096, 4096);
-    punch(b"inline", 0, 4096, 4096, &[]);
+    punch_lent(rt, b"shared byte 2", 2, 16384, 0, &mut [165u8; 284]);
+    punch_lent(rt, b"row of length 0", 0, 0, 0, &mut [165u8; 284]);
+    punch_on(rt, b"sector 0", v, lent::file(16384), 4096, 4096);
+    punch(rt, b"inline", 0, 4096, 4096, &[]);
 }
 
 // 13, 15, 16, 26, 27.
-fn late_refusals() {
+fn late_refusals(rt: &impl Print) {
     let mut v = lent::volume();
     v.generation = 18446744073709551615;
     let mut f = lent::file(16384);
     f.nodatacow = true;
-    punch_on(b"last generation", v, lent::file(16384), 4096, 4096);
-    punch_lent(b"keyed", 0, 16384, 1, &mut [165u8; 284]);
-    punch_on(b"nodatacow", lent::volume(), f, 100, 50);
-    punch(b"place missing", 1, 100, 50, &[]);
-    punch_lent(b"edits too short", 0, 16384, 0, &mut [165u8; 141]);
+    punch_on(rt, b"last generation", v, lent::file(16384), 4096, 4096);
+    punch_lent(rt, b"keyed", 0, 16384, 1, &mut [165u8; 284]);
+    punch_on(rt, b"nodatacow", lent::volume(), f, 100, 50);
+    punch(rt, b"place missing", 1, 100, 50, &[]);
+    punch_lent(rt, b"edits too short", 0, 16384, 0, &mut [165u8; 141]);
 }
 
-pub fn all() {
-    punch(b"P1", 1, 4096, 4096, &[]);
-    punch(b"P2", 1, 0, 16384, &[]);
-    punch(b"P3", 1, 100, 50, &[4194304]);
-    punch(b"P4", 1, 16384, 4096, &[]);
-    punch(b"P7", 1, 4096, 0, &[]);
-    punch(b"P8 length 1", 1, 9223372036854775806, 1, &[]);
-    punch(b"P8 length 2", 1, 9223372036854775806, 2, &[]);
-    punch(b"P12", 2, 100, 50, &[]);
-    three_items();
-    early_refusals();
-    late_refusals();
+pub fn all(rt: &impl Print) {
+    punch(rt, b"P1", 1, 4096, 4096, &[]);
+    punch(rt, b"P2", 1, 0, 16384, &[]);
+    punch(rt, b"P3", 1, 100, 50, &[4194304]);
+    punch(rt, b"P4", 1, 16384, 4096, &[]);
+    punch(rt, b"P7", 1, 4096, 0, &[]);
+    punch(rt, b"P8 length 1", 1, 9223372036854775806, 1, &[]);
+    punch(rt, b"P8 length 2", 1, 9223372036854775806, 2, &[]);
+    punch(rt, b"P12", 2, 100, 50, &[]);
+    three_items(rt);
+    early_refusals(rt);
+    late_refusals(rt);
 }
