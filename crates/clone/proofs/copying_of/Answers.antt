@@ -1,0 +1,6 @@
+use Rattle.clone.proofs.Asking.{copying-told}
+use borrow.Author.Rules.{rules}
+use Rattle.clone.proofs.copying_of.Goals as goal
+
+pub returns : goal.returns
+returns c = let a = c.args in copying-told a.sector a.number a.s _ c.span_of.ensures
