@@ -116,11 +116,11 @@ module _ (v : Volume) (dst src : File) (own : Bool) (s : CloneRange) (list share
 -- ---- numbers
 
 pub counted-now :
-    (c : Copying) (fs : List Fields) (bs : List ℕ) (its : List Fields) (rs : List Row) (size : ℕ) (n : Counts) (before after : Outs) (r : Numbers)
-    → PlanLaid c.number (plan_for c fs bs its rs 0) (plan_for c fs bs its rs 0).edits n before after
+    (c : Copying) (fs : List Fields) (bs : List ℕ) (source : List Fields) (rs : List Row) (size : ℕ) (n : Counts) (before after : Outs) (r : Numbers)
+    → PlanLaid c.number (plan_for c fs bs source rs 0) (plan_for c fs bs source rs 0).edits n before after
     → r ≡ record { edits = n.edits.edits; shares = n.refs.shares; unrefs = n.refs.unrefs; releases = n.refs.releases; adds = 0; writes = 0; size = size; bytes = n.edits.bytes; prealloc = false }
-    → r ≡ numbers (plan_for c fs bs its rs size)
-counted-now c fs bs its rs size n before after r l e =
+    → r ≡ numbers (plan_for c fs bs source rs size)
+counted-now c fs bs source rs size n before after r l e =
     let e1 = l.edits.edits.lines ∙ zero-add _ in
     let e2 = l.refs.shares.lines ∙ zero-add _ in
     let e3 = l.refs.unrefs.lines ∙ zero-add _ in
