@@ -1,18 +1,14 @@
 -- The byte and the nine numbers of an answer, and what an export leaves. Assumes nothing.
-use mathlib.Core.Path.{◌≡◌, refl, ap, ◌∙◌, sym}
-use mathlib.Core.Bool.{Bool, true, false}
+use mathlib.Core.Path.{◌≡◌, refl, sym}
 use mathlib.Core.List.{List}
 use Prim.Native.Nat.{ℕ, ◌≤◌, ◌<◌}
-use native.Mathlib.Omega.{arith}
-use lib.Dec.{leb}
 use lib.ListN.{length}
 use borrow.Author.Tests.{le-leb, lt-leb}
-use Rattle.records.specs.Stages.{unless}
 use Rattle.endian.specs.Le.{put}
 use Rattle.request.specs.declared.Numbers.{Numbers}
 use Rattle.request.specs.declared.Answer.{Answer}
-use Rattle.request.specs.Answers.{Outcome, plan, refused, said}
-use Rattle.plan_def.specs.Plans.{Plan, told, refused_or}
+use Rattle.request.specs.Answers.{Outcome, plan, said}
+use Rattle.plan_def.specs.Plans.{Plan, refused_or}
 use Rattle.plan_def.specs.Outputs.{Outs, MetWith}
 use Rattle.ffi.specs.Exports.{nine, with_nine, Told, ExportedWith}
 
