@@ -2,7 +2,7 @@
 #![tactic(auto)]
 
 ghost use Rattle.std.specs.Prelude.{◌≤◌, length};
-ghost use Rattle.records.specs.Lent.{old, new};
+ghost use Rattle.records.specs.Lent.{old};
 ghost use Rattle.plan_def.specs.Plans.{Plan};
 ghost use Rattle.apply_def.specs.Lent.{rows_in, plan_lent, apply_lent, parts_of};
 ghost use Rattle.apply_refusals.specs.Stages.{Stands};

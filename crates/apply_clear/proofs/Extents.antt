@@ -1,8 +1,8 @@
 -- The adds' extents copied as pairs, and what their order says. Assumes nothing.
 use mathlib.Core.Path.{◌≡◌, refl, ap, ◌∙◌, sym}
-use mathlib.Core.Bool.{Bool, true, false, ◌&&◌, ◌||◌, false≢true}
+use mathlib.Core.Bool.{Bool, true, false, ◌||◌, false≢true}
 use mathlib.Core.List.{List, [], ◌∷◌, ◌++◌}
-use Prim.Native.Nat.{ℕ, zero, suc, ◌+◌, ◌*◌, ◌/◌, ◌≤◌, ◌<◌}
+use Prim.Native.Nat.{ℕ, ◌+◌, ◌*◌, ◌/◌, ◌≤◌, ◌<◌}
 use native.Mathlib.Omega.{arith}
 use native.Mathlib.Nat.{mul-div_cancel}
 use lib.Dec.{leb}
@@ -10,14 +10,14 @@ use lib.ListN.{length, get_or, drop, take}
 use lib.Seq.{length-take-le}
 use Rattle.plan_def.proofs.Outputs.{add_own}
 use Rattle.records.specs.Records.{records}
-use Rattle.records.specs.Stages.{every, pairs}
-use Rattle.records.proofs.Tests.{both, both_left, both_right, never}
-use Rattle.records.proofs.Lists.{every_take, pairs-take}
+use Rattle.records.specs.Stages.{pairs}
+use Rattle.records.proofs.Tests.{never}
+use Rattle.records.proofs.Lists.{pairs-take}
 use Rattle.records.proofs.Loops.{records-length, records_cons, records_nil}
 use Rattle.cut_def.specs.Refs.{Ref}
 use Rattle.records.proofs.Chunks.{chunks-cut, chunks-take}
 use Rattle.plan_def.specs.Plans.{Add}
-use Rattle.plan_def.specs.Places.{clear, places_apart}
+use Rattle.plan_def.specs.Places.{places_apart}
 use Rattle.plan_def.specs.Outputs.{ref_numbers}
 use Rattle.plan_def.specs.ReadBack.{add_in, adds_in, refs_in}
 use Rattle.plan_lines.specs.Lines.{Laid}

@@ -8,7 +8,7 @@ use Rattle.records.specs.Stages.{first, first_of, stage, every, pairs, neighbour
 use Rattle.records.specs.Select.{keep, any, count}
 use Rattle.endian.specs.Le.{le, num, enc}
 use Rattle.records.specs.Records.{records, chunks}
-use Rattle.item.specs.Items.{Fields, regular_item, windowed, items, decode, item_of, encode}
+use Rattle.item.specs.Items.{regular_item, items, decode, item_of, encode}
 use Rattle.item.proofs.Samples.{sample}
 use Rattle.table.specs.declared.Row.{Row}
 use Rattle.table.specs.Rows.{table_kept, find_from, rows, row_of}

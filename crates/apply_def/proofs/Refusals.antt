@@ -3,7 +3,7 @@
 use mathlib.Core.Path.{◌≡◌, ap}
 use mathlib.Core.Bool.{true, ◌&&◌}
 use mathlib.Core.List.{List, ◌++◌, map}
-use Prim.Native.Nat.{ℕ, ◌+◌}
+use Prim.Native.Nat.{ℕ}
 use lib.Dec.{leb}
 use lib.ListN.{length}
 use Rattle.records.specs.Stages.{unless, first, first_of, stage, every, pairs}

@@ -6,7 +6,6 @@ use Rattle.records.specs.Stages.{unless, first_of, every}
 use Rattle.item.specs.Items.{Fields, items}
 use Rattle.table.specs.declared.Row.{Row}
 use Rattle.table.specs.Rows.{rows}
-use Rattle.cut_def.specs.Edits.{put, delete}
 use Rattle.plan_def.specs.Plans.{Plan}
 use Rattle.plan_def.specs.ReadBack.{edits_in, refs_in, adds_in}
 use Rattle.apply_def.specs.Apply.{Applying, or_applied, apply}

@@ -2,7 +2,6 @@
 #![tactic(auto)]
 
 ghost use Rattle.std.specs.Prelude.{◌≡◌, true, ◌&&◌, ℕ, ◌%◌, ◌≤◌, ◌<◌, eqb, length};
-ghost use Rattle.records.specs.Lent.{old};
 ghost use Rattle.records.specs.Stages.{first, unless, every};
 ghost use Rattle.item.specs.Items.{items};
 ghost use Rattle.table.specs.Rows.{rows, table_kept};

@@ -22,7 +22,6 @@ use Rattle.records.specs.Select.{keep}
 use Rattle.cut_def.specs.Pieces.{Piece, items_of, insert_all}
 use Rattle.cut_def.specs.Edits.{Edit, key_of, items_after}
 use Rattle.cut_def.proofs.Applied.{Up, rising, rising_up, up_rising}
-use Rattle.edit_merge.specs.Merge.{from}
 use Rattle.edit_merge.proofs.News.{from_nil}
 use Rattle.apply_def.specs.Apply.{edits_rise}
 use Rattle.plan_def.specs.ReadBack.{edit_in, edits_in}

@@ -2,13 +2,11 @@
 use mathlib.Core.Path.{◌≡◌, refl, ap, ap₂, ◌∙◌, sym}
 use mathlib.Core.Bool.{Bool, true, false, cond, false≢true}
 use mathlib.Core.List.{List, [], ◌∷◌, ◌++◌, map}
-use Prim.Native.Nat.{ℕ, suc, ◌+◌, ◌-◌, ◌*◌, ◌/◌, ◌≤◌, ◌<◌}
+use Prim.Native.Nat.{ℕ, suc, ◌+◌, ◌*◌, ◌/◌, ◌≤◌, ◌<◌}
 use native.Mathlib.Omega.{arith}
-use native.Mathlib.Nat.{add-zero}
 use native.Mathlib.Decide.{dec_lt}
 use lib.Dec.{eqb}
-use lib.ListN.{length, get_or, take, drop}
-use lib.Seq.{drop-drop, get_or-drop}
+use lib.ListN.{length, get_or, drop}
 use borrow.Author.Tests.{ltb-true, ltb-false, eqb-true, eqb-false}
 use Rattle.records.specs.Stages.{pairs}
 use Rattle.records.proofs.Loops.{records-length, records-at, records_cons, records_nil}
@@ -20,7 +18,6 @@ use Rattle.lists.specs.Lists.{rises}
 use Rattle.cut_def.specs.Pieces.{built, kept}
 use Rattle.cut_def.specs.Edits.{Edit, put, delete, key_of, put_of, items_after}
 use Rattle.cut_def.proofs.Applied.{ItemsUp, EditsUp, rising_up, after_kept, after-named, after-put, after-delete}
-use Rattle.item.proofs.Widths.{decode-take}
 use Rattle.edit_merge.specs.Merge.{from, gone, behind}
 use Rattle.edit_merge.proofs.News.{from_cons, from_nil}
 use Rattle.apply_def.specs.Apply.{edits_rise}

@@ -4,7 +4,7 @@ use Rattle.records.specs.Records.{records}
 use Rattle.records.specs.Stages.{unless, first, every}
 use Rattle.item.specs.Items.{Fields, items}
 use Rattle.lists.specs.declared.Last.{Last}
-use Rattle.lists.specs.Lists.{list_kept, whole_sectors, well_kept}
+use Rattle.lists.specs.Lists.{whole_sectors, well_kept}
 use Rattle.lists.specs.Raw.{turn, next}
 use Rattle.cut_def.specs.Pieces.{items_of}
 use Rattle.cut_def.specs.Edits.{items_after}

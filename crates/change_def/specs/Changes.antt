@@ -1,5 +1,5 @@
 -- `change_range` (fallocate.rs): "`change_range` then cuts, rewrites, joins, drops, takes places, counts."
-use Rattle.std.specs.Prelude.{◌&&◌, not, ℕ, ◌+◌, ◌-◌, ◌^◌, eqb}
+use Rattle.std.specs.Prelude.{◌&&◌, not, ℕ, ◌-◌, ◌^◌, eqb}
 use mathlib.Core.List.{List, [], ◌∷◌, ◌++◌, map, flat_map}
 use Rattle.records.specs.Stages.{whenever, unless, first_of, stage}
 use Rattle.records.specs.Select.{keep, any}

@@ -6,11 +6,11 @@ use Prim.Native.Nat.{ℕ, zero, suc, ◌+◌, ◌-◌, ◌<◌, ◌≤◌, ◌^�
 use native.Mathlib.Omega.{arith}
 use native.Mathlib.Nat.{zero-add}
 use lib.Dec.{eqb, leb}
-use lib.ListN.{length, take, replicate, length-append, length-replicate, replicate-append-replicate}
-use borrow.Author.Tests.{le-leb, eqb-true, eqb-false, ne_eqb, not-true}
+use lib.ListN.{length, replicate, length-append, length-replicate, replicate-append-replicate}
+use borrow.Author.Tests.{le-leb, eqb-true, eqb-false, ne_eqb}
 use Rattle.records.specs.Records.{chunks, records}
 use Rattle.records.specs.Stages.{first, first_of, every, pairs, stage}
-use Rattle.records.proofs.Tests.{both_left, both_right, every_map, every_both, first_of_zero, whenever-zero, unless-zero}
+use Rattle.records.proofs.Tests.{both_left, both_right, every_map, every_both, first_of_zero, whenever-zero}
 use Rattle.item.specs.Items.{Fields, items, ranged, end}
 use Rattle.lists.specs.Lists.{item_sound}
 use Rattle.lists.proofs.Order.{item-ranged}

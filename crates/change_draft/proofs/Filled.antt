@@ -10,7 +10,7 @@ use lib.ListN.{length, length-append, length-map}
 use borrow.Author.Tests.{ltb-false}
 use Rattle.records.specs.Select.{only, keep}
 use Rattle.records.specs.Stages.{every, pairs}
-use Rattle.item.specs.Items.{Fields, items, ranged}
+use Rattle.item.specs.Items.{Fields, ranged}
 use Rattle.lists.specs.Lists.{rises}
 use Rattle.lists.proofs.Laws.{Kept}
 use Rattle.request.specs.declared.Volume.{Volume}

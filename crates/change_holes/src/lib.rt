@@ -4,7 +4,6 @@
 
 ghost use Rattle.std.specs.Prelude.{◌≡◌, ◌+◌, ◌*◌, ◌≤◌, ◌<◌, ◌^◌, length, get_or};
 ghost use mathlib.Core.List.{flat_map};
-ghost use Rattle.records.specs.Lent.{old};
 ghost use Rattle.item.specs.Items.{items};
 ghost use Rattle.change_def.specs.Preallocs.{piece_limit, piece_count, prealloc_pieces, sum_of};
 ghost use Rattle.change_def.specs.Sweep.{up_to, sweep};

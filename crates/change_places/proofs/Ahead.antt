@@ -9,8 +9,8 @@ use lib.ListN.{length, get_or, take, drop, length-drop, length-map, drop_of_leng
 use lib.Seq.{drop-cons, length-take-le}
 use borrow.Author.Tests.{eq-eqb}
 use Rattle.records.specs.Stages.{unless, first, every, pairs}
-use Rattle.records.proofs.Tests.{both, both_left, both_right, first_go, first_stop, first-unless}
-use Rattle.records.proofs.Lists.{every_take, pairs-take}
+use Rattle.records.proofs.Tests.{first_go, first_stop, first-unless}
+use Rattle.records.proofs.Lists.{pairs-take}
 use Rattle.item.specs.Items.{Fields}
 use Rattle.table.specs.declared.Row.{Row}
 use Rattle.plan_def.specs.Plans.{Add}

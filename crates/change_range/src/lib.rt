@@ -2,7 +2,7 @@
 #![tactic(auto)]
 
 ghost use Rattle.std.specs.Prelude.{true, ◌≡◌, length, get_or};
-ghost use Rattle.records.specs.Lent.{old, new};
+ghost use Rattle.records.specs.Lent.{old};
 ghost use Rattle.item.specs.Items.{items};
 ghost use Rattle.table.specs.Rows.{rows, table_kept};
 ghost use Rattle.plan_def.specs.Places.{places_sound};

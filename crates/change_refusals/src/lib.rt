@@ -2,7 +2,6 @@
 #![tactic(auto)]
 
 ghost use Rattle.std.specs.Prelude.{true, List, ◌≡◌, ℕ, length};
-ghost use Rattle.records.specs.Lent.{old};
 ghost use Rattle.records.specs.Select.{only};
 ghost use Rattle.records.specs.Stages.{stage};
 ghost use Rattle.item.specs.Items.{items};

@@ -12,7 +12,7 @@ use Rattle.records.proofs.Lists.{every_true, every_parts, pairs_parts}
 use Rattle.item.specs.Items.{Fields, ranged}
 use Rattle.lists.specs.Lists.{item_sound, rises, apart}
 use Rattle.lists.proofs.Laws.{Kept}
-use Rattle.cut_def.specs.Pieces.{Piece, built, kept, items_of, insert_all, counted_bytes}
+use Rattle.cut_def.specs.Pieces.{Piece, built, items_of, insert_all, counted_bytes}
 use Rattle.cut_def.specs.Raw.{replaced}
 use Rattle.cut_def.specs.Edits.{edits}
 use Rattle.cut_def.proofs.Bytes.{bytes_append, bytes_fit}

@@ -8,7 +8,7 @@ use lib.Dec.{eqb, leb, ltb}
 use lib.ListN.{length}
 use borrow.Author.Tests.{eqb-true, leb-true, ltb-true, eq-eqb, ne_eqb}
 use Rattle.plan_def.proofs.Outcomes.{two-refused}
-use Rattle.records.specs.Stages.{whenever, unless, first, first_of, stage, every}
+use Rattle.records.specs.Stages.{whenever, first, first_of, stage, every}
 use Rattle.records.proofs.Tests.{both_left, both_right, first-zero, first_last, first_assoc, first_of_zero, unless-zero, every_map}
 use Rattle.item.specs.Items.{Fields, items, ranged}
 use Rattle.table.specs.Rows.{rows, one_more_reference}

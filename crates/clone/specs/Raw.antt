@@ -1,5 +1,5 @@
 -- For the code only: the stages of a clone as the private functions group them, and what they ask.
-use Rattle.std.specs.Prelude.{◌≡◌, Bool, true, not, List, ℕ, ◌-◌, ◌^◌, eqb}
+use Rattle.std.specs.Prelude.{◌≡◌, Bool, true, List, ℕ, ◌-◌, ◌^◌, eqb}
 use Rattle.records.specs.Stages.{whenever, first, stage}
 use Rattle.item.specs.Items.{Fields}
 use Rattle.table.specs.declared.Row.{Row}

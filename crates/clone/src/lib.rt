@@ -2,7 +2,6 @@
 #![tactic(auto)]
 
 ghost use Rattle.std.specs.Prelude.{false, true, List, [], ◌≡◌, ℕ, ◌+◌, ◌-◌, ◌<◌, ◌^◌, length};
-ghost use Rattle.records.specs.Lent.{old, new};
 ghost use Rattle.records.specs.Stages.{every};
 ghost use Rattle.item.specs.Items.{items};
 ghost use Rattle.cut_segment.specs.Segments.{Runs};

@@ -1,5 +1,5 @@
 -- A clone (document 01, "A clone"; `clone_range`, `clone_span` and `clone_item`, clone.rs).
-use Rattle.std.specs.Prelude.{Bool, cond, not, List, [], ◌∷◌, ◌≡◌, ℕ, ◌+◌, ◌-◌, ◌≤◌, ◌<◌, ◌^◌, max, eqb, length}
+use Rattle.std.specs.Prelude.{Bool, cond, List, [], ◌∷◌, ◌≡◌, ℕ, ◌+◌, ◌-◌, ◌≤◌, ◌<◌, ◌^◌, max, eqb, length}
 use Rattle.std.proofs.Math.Option.{Option}
 use Rattle.records.specs.Stages.{whenever, unless, first, first_of, stage}
 use Rattle.item.specs.Items.{Fields, items}

@@ -5,7 +5,7 @@ use mathlib.Core.List.{List, [], ◌∷◌, map, flat_map}
 use Prim.Native.Nat.{ℕ}
 use Rattle.records.specs.Stages.{first, first_of, every}
 use Rattle.records.specs.Select.{keep, any}
-use Rattle.item.specs.Items.{Fields, regular_item, with_numbers}
+use Rattle.item.specs.Items.{Fields}
 use Rattle.item.proofs.Samples.{window_of}
 use Rattle.table.specs.declared.Row.{Row}
 use Rattle.table.specs.Rows.{find_from}

@@ -2,7 +2,6 @@
 #![tactic(auto)]
 
 ghost use Rattle.std.specs.Prelude.{true, ◌≡◌};
-ghost use Rattle.records.specs.Lent.{old};
 ghost use Rattle.records.specs.Stages.{stage, every};
 ghost use Rattle.item.specs.Items.{fields, items};
 ghost use Rattle.table.specs.Rows.{rows, table_kept};

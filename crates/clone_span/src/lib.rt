@@ -3,7 +3,6 @@
 #![tactic(auto)]
 
 ghost use Rattle.std.specs.Prelude.{false, true, ◌≡◌, ◌+◌, ◌-◌, ◌<◌, ◌^◌};
-ghost use Rattle.records.specs.Lent.{old};
 ghost use Rattle.records.specs.Stages.{stage};
 ghost use Rattle.item.specs.Items.{fields, items};
 ghost use Rattle.request.specs.Lent.{sector_sound};

@@ -15,7 +15,7 @@ use Rattle.item.specs.Items.{Fields, items, end, joined}
 use Rattle.cut_def.specs.Pieces.{Piece, built}
 use Rattle.cut_def.specs.Joins.{joinable, join_next}
 use Rattle.cut_def.proofs.Mappings.{joint}
-use Rattle.cut_segment.specs.Segments.{nothing, item_at, pieces, bounded}
+use Rattle.cut_segment.specs.Segments.{nothing, item_at, bounded}
 use Rattle.cut_joins.specs.Joins.{join_items, Within}
 use Rattle.cut_segment.proofs.Inserting.{took, left, drop-next}
 

@@ -4,12 +4,12 @@ use mathlib.Core.List.{List, [], ◌∷◌, ◌++◌, append_assoc, append-nil}
 use mathlib.Core.Bool.{Bool, true, false}
 use Prim.Native.Nat.{ℕ, zero, suc, ◌+◌, ◌*◌, ◌/◌, ◌^◌, ◌<◌, ◌≤◌}
 use native.Mathlib.Omega.{arith}
-use native.Mathlib.Nat.{add-zero, zero-add, add_assoc, zero-mul, suc-add, mul-le-mul_right, le-div_iff_mul-le, div-mul-le_self}
-use lib.ListN.{length, take, drop, set, length-append, length-take, length-drop}
-use lib.Seq.{drop_at, take-take, take-append-le, drop-append-le, drop-drop, take-nil, take-suc-set}
+use native.Mathlib.Nat.{add-zero, zero-add, add_assoc, zero-mul, mul-le-mul_right, le-div_iff_mul-le, div-mul-le_self}
+use lib.ListN.{length, take, drop, set, length-take, length-drop}
+use lib.Seq.{drop_at, take-take, take-append-le, drop-append-le, drop-drop, take-suc-set}
 use native.Mathlib.Numerals.{add-one}
 use Rattle.endian.specs.Le.{put, Bytes, room}
-use Rattle.endian.proofs.Numbers.{num-take, num-room, length-enc}
+use Rattle.endian.proofs.Numbers.{num-room}
 use Rattle.endian.proofs.Puts.{length-put}
 use Rattle.records.specs.Select.{only}
 use Rattle.records.specs.Records.{chunks, records}

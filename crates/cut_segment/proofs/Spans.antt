@@ -1,12 +1,11 @@
 -- A part of a list that is lent, from one record to another. Assumes nothing.
-use mathlib.Core.Path.{◌≡◌, refl, ap, ◌∙◌, sym}
-use mathlib.Core.List.{List, ◌∷◌}
-use Prim.Native.Nat.{ℕ, zero, suc, ◌+◌, ◌-◌, ◌*◌, ◌/◌, ◌≤◌}
+use mathlib.Core.Path.{◌≡◌, ap, ◌∙◌, sym}
+use mathlib.Core.List.{List}
+use Prim.Native.Nat.{ℕ, ◌-◌, ◌*◌, ◌/◌, ◌≤◌}
 use native.Mathlib.Omega.{arith}
-use native.Mathlib.Nat.{add_comm, suc-mul, zero-mul, sub-zero, le-div_iff_mul-le, mul-div_cancel}
+use native.Mathlib.Nat.{le-div_iff_mul-le, mul-div_cancel}
 use lib.ListN.{length, take, drop, length-take, length-drop}
-use lib.Seq.{drop-drop, take-take}
-use Rattle.records.specs.Records.{records, chunks}
+use Rattle.records.specs.Records.{records}
 use Rattle.item.specs.Items.{decode, items}
 use Rattle.records.proofs.Chunks.{chunks-cut, chunks-take, chunks-drop}
 use Rattle.item.proofs.Widths.{decode-take}

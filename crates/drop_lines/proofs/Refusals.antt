@@ -1,6 +1,6 @@
 -- What is due for drops, item by item. Assumes nothing.
 use mathlib.Core.Path.{◌≡◌, refl, ap, ◌∙◌, sym}
-use mathlib.Core.Bool.{Bool, true, false, cond, ◌&&◌, ◌||◌, not}
+use mathlib.Core.Bool.{Bool, true, false, cond, ◌&&◌, not}
 use mathlib.Core.List.{List, [], ◌∷◌}
 use Prim.Native.Nat.{ℕ, ◌+◌, ◌*◌, ◌<◌, ◌≤◌}
 use native.Mathlib.Omega.{arith}
@@ -14,7 +14,7 @@ use Rattle.item.specs.Items.{Fields, decode}
 use Rattle.table.specs.declared.Row.{Row}
 use Rattle.table.specs.declared.Found.TheVariants.{At, Missing}
 use Rattle.table.specs.Rows.{find}
-use Rattle.table.specs.Windows.{window_inside, window_sound}
+use Rattle.table.specs.Windows.{window_sound}
 use Rattle.table.proofs.Laws.{with_none, with_row_lem}
 use Rattle.ref_def.specs.Drops.{in_leaves, Due, earlier, due_of, drops_refusal, drop_refusal}
 use Rattle.drop_lines.specs.declared.Cut.{Cut}

@@ -15,7 +15,7 @@ use Rattle.records.proofs.Lists.{pairs-mapped, pairs-drop}
 use Rattle.records.proofs.Loops.{chunks-length, chunks-at}
 use Rattle.records.specs.Records.{records}
 use Rattle.item.specs.declared.Item.{Item}
-use Rattle.item.specs.Items.{Fields, decode, items, fields, regular_item, of_kind}
+use Rattle.item.specs.Items.{Fields, decode, fields, regular_item, of_kind}
 use Rattle.lists.specs.Lists.{rises}
 use Rattle.cut_def.specs.Pieces.{built, insert_all}
 use Rattle.plan_def.specs.Plans.{Add}

@@ -12,7 +12,7 @@ use Rattle.plan_def.specs.Outputs.{edit_bytes}
 use Rattle.plan_lines.specs.Lines.{Laid}
 use Rattle.plan_lines.proofs.Laws.{Going, going-turn, going_done}
 use Rattle.edit_merge.specs.declared.Merged.{Merged}
-use Rattle.edit_merge.specs.Merge.{from, Merging, cursor_after}
+use Rattle.edit_merge.specs.Merge.{Merging, cursor_after}
 use Rattle.edit_merge.proofs.News.{from_nil}
 use Rattle.edit_merge.proofs.Steps.{rest-rises}
 use Rattle.edit_merge.specs.declared.Next.{Next}

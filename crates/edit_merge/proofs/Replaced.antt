@@ -1,7 +1,7 @@
 -- The edits where a part of a list makes way for others. Assumes nothing.
 use mathlib.Core.Path.{◌≡◌, refl, ap, ap₂, ◌∙◌, sym}
 use mathlib.Core.Bool.{Bool, true, not, or-false}
-use mathlib.Core.List.{List, [], ◌∷◌, ◌++◌, append-nil, map, flat_map, map-append, map-map, map-id}
+use mathlib.Core.List.{List, [], ◌∷◌, ◌++◌, append-nil, map, flat_map, map-append}
 use Prim.Native.Nat.{ℕ, zero, suc, ◌-◌, ◌≤◌}
 use native.Mathlib.Omega.{arith}
 use native.Mathlib.Nat.{sub-zero}

@@ -2,7 +2,6 @@
 #![tactic(auto)]
 
 ghost use Rattle.std.specs.Prelude.{[], ◌≡◌};
-ghost use Rattle.records.specs.Lent.{old, new};
 ghost use Rattle.plan_def.specs.Outputs.{six, Met};
 ghost use Rattle.extplan_operate.specs.Operations.{operation, operation_in, LieIn};
 

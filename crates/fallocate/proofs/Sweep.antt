@@ -14,7 +14,7 @@ use Rattle.records.proofs.Picks.{keep_all, keep_append}
 use Rattle.item.specs.Items.{Fields, end}
 use Rattle.cut_segment.specs.Segments.{Runs}
 use Rattle.change_def.specs.Preallocs.{Stretch}
-use Rattle.change_def.specs.Sweep.{up_to, gaps_from, gaps, halves, sweep, holes_in}
+use Rattle.change_def.specs.Sweep.{up_to, gaps_from, gaps, halves, holes_in}
 use Rattle.change_def.specs.Rounding.{round_down, round_up}
 use Rattle.change_def.proofs.Rounding.{down_below, up_above}
 use Rattle.change_def.proofs.Sweep.{some}

@@ -3,7 +3,6 @@
 // operation, `fallocate`.
 #![tactic(auto)]
 
-ghost use Rattle.records.specs.Lent.{old, new};
 ghost use Rattle.change_def.specs.Preallocs.{sum_of};
 ghost use Rattle.std.specs.Prelude.{true, ◌≡◌, ◌<◌, ◌^◌};
 ghost use Rattle.records.specs.Stages.{stage};

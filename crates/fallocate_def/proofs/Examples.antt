@@ -5,7 +5,7 @@ use mathlib.Core.List.{List, [], ◌∷◌, map, flat_map}
 use Prim.Native.Nat.{ℕ}
 use Rattle.records.specs.Stages.{first, first_of, stage, every, pairs, neighbours}
 use Rattle.records.specs.Select.{keep, any, count}
-use Rattle.item.specs.Items.{Fields, regular_item, of_kind, with_numbers}
+use Rattle.item.specs.Items.{Fields, regular_item, of_kind}
 use Rattle.table.proofs.Samples.{sample_row}
 use Rattle.item.proofs.Samples.{sample}
 use Rattle.table.specs.Rows.{table_kept, find_from}

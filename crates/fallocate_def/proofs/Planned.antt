@@ -7,8 +7,8 @@ use Prim.Native.Nat.{ℕ, ◌+◌, ◌<◌, ◌≤◌, ◌^◌}
 use native.Mathlib.Omega.{arith}
 use lib.Dec.{eqb, leb, ltb}
 use lib.ListN.{length}
-use borrow.Author.Tests.{eqb-false, leb-true, ltb-true, lt-ltb, not-true}
-use Rattle.records.specs.Stages.{whenever, unless, first, stage, every}
+use borrow.Author.Tests.{eqb-false, leb-true, ltb-true, lt-ltb}
+use Rattle.records.specs.Stages.{whenever, first, stage, every}
 use Rattle.records.specs.Select.{any}
 use Rattle.records.proofs.Tests.{both, both_left, both_right, either, either_left, either_right, implied, first-zero, first_of_zero, whenever-zero, unless-zero, stage-zero, every_both}
 use Rattle.item.specs.Items.{Fields, ranged, hole, end}

@@ -15,9 +15,9 @@ use Rattle.apply_def.specs.Apply.{Applying, applied, refusal}
 use Rattle.apply_def.specs.Lent.{Parts, apply_lent}
 use Rattle.apply.specs.declared.Applied.{Applied}
 use Rattle.apply.specs.declared.Applied.TheVariants as enum
-use Rattle.apply.specs.Outcomes.{list_left, table_left, MetApplyingWith}
+use Rattle.apply.specs.Outcomes.{MetApplyingWith}
 use Rattle.history_theorem.specs.Calls.{Call, Lent, lent_of}
-use Rattle.history_bytes.specs.StoredState.{StoredState, Buffers, BytesCall, FileBytes, bytes_of, with_bytes, answer_from, list_lent, table_lent, applying_lent, stored_after, step_lent_of, step_lent, run_lent, Whole, AllLendable, OfBytes}
+use Rattle.history_bytes.specs.StoredState.{StoredState, Buffers, BytesCall, bytes_of, with_bytes, answer_from, list_lent, table_lent, applying_lent, stored_after, step_lent_of, step_lent, run_lent, Whole, AllLendable, OfBytes}
 use Rattle.history_bytes.specs.Called.{parts_by, stored_by, AppliedBy, DoneWith, Called, AllCalled}
 use Rattle.history_bytes.proofs.Runs.{demand3_of_bytes}
 

@@ -26,7 +26,7 @@ use Rattle.plan_def.proofs.Outputs.{edit-length}
 use Rattle.plan_lines.proofs.Laws.{length_flat}
 use Rattle.plan_lines.proofs.Again.{lines_read}
 use Rattle.clone_def.specs.Clone.{chosen, clone}
-use Rattle.apply_def.specs.Apply.{applied, apply_refusal, apply, rows_after}
+use Rattle.apply_def.specs.Apply.{apply_refusal, apply, rows_after}
 use Rattle.apply_def.specs.Lent.{Parts, tag_sound, plan_lent, parts_broken, apply_lent, count_broken}
 use Rattle.plan_bounds.specs.Widths.{edit_fits}
 use Rattle.plan_bounds.proofs.Read.{edits-back}

@@ -5,7 +5,7 @@ use mathlib.Core.List.{List, [], ◌∷◌}
 use Prim.Native.Nat.{ℕ, ◌-◌, ◌^◌}
 use lib.Dec.{eqb}
 use Rattle.records.specs.Stages.{unless, first, first_of, every, pairs}
-use Rattle.item.specs.Items.{Fields, regular_item, with_numbers}
+use Rattle.item.specs.Items.{Fields}
 use Rattle.item.proofs.Samples.{sample}
 use Rattle.lists.specs.Lists.{list_kept, whole_sectors, record_refusal}
 

@@ -8,7 +8,7 @@ use native.Mathlib.Omega.{arith}
 use native.Mathlib.Decide.{ℕ_discrete}
 use lib.Dec.{eqb, leb}
 use lib.ListN.{length, get_or}
-use borrow.Author.Tests.{eqb-true, eqb-false, eq-eqb, leb-true, ltb-true, not-true}
+use borrow.Author.Tests.{eqb-true, eqb-false, eq-eqb, leb-true, ltb-true}
 use Rattle.records.specs.Stages.{whenever, unless, first, first_of, every, pairs}
 use Rattle.records.proofs.Tests.{both_left, both_right, either, either_left, either_right, implied, first-zero, whenever-zero, unless-zero, every-at, pairs-at}
 use Rattle.item.specs.Items.{Fields, ranged, end}

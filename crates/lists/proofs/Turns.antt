@@ -1,10 +1,9 @@
 -- What holds of the reader that `records_refusal` holds from record to record, as facts over plain values. Assumes nothing.
 use mathlib.Core.Path.{◌≡◌, sym, ap, subst, ◌∙◌}
 use mathlib.Core.List.{List}
-use Prim.Native.Nat.{ℕ, ◌+◌, ◌-◌, ◌*◌, ◌/◌, ◌<◌, ◌≤◌, ◌^◌}
+use Prim.Native.Nat.{ℕ, ◌+◌, ◌-◌, ◌*◌, ◌/◌, ◌<◌, ◌≤◌}
 use native.Mathlib.Omega.{arith}
 use lib.ListN.{length, drop}
-use denote.Bor.{Bor}
 use Rattle.records.specs.Stages.{stage}
 use Rattle.records.proofs.Loops.{rest, stage-turn, stage_stop, stage-done}
 use Rattle.item.specs.declared.Item.{Item}

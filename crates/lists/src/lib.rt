@@ -2,7 +2,6 @@
 #![tactic(auto)]
 
 ghost use Rattle.std.specs.Prelude.{◌≡◌, not, true, ◌||◌, ℕ, ◌+◌, ◌*◌, ◌%◌, ◌^◌, ◌<◌, ◌≤◌, leb, ltb, length, drop};
-ghost use Rattle.records.specs.Lent.{old};
 ghost use Rattle.records.specs.Stages.{unless, stage, every};
 ghost use Rattle.item.specs.Items.{fields, item_of, items, ranged};
 ghost use Rattle.lists.specs.Lists.{shared_sound, range_sound, item_sound, list_kept, whole_sectors, record_refusal};

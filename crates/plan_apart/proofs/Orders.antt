@@ -1,5 +1,5 @@
 -- A test of every two that does not ask which comes first is the same in every order, so in the sorted one. Assumes nothing.
-use mathlib.Core.Path.{◌≡◌, refl, ap, ap₂, ◌∙◌, sym}
+use mathlib.Core.Path.{◌≡◌, refl, ap, ap₂, ◌∙◌}
 use mathlib.Core.Bool.{Bool, true, false, cond, ◌&&◌}
 use mathlib.Core.List.{List, [], ◌∷◌}
 use Rattle.records.specs.Stages.{every, pairs}

@@ -1,18 +1,18 @@
 -- The edits of every plan of the operations have numbers that fit, where what was lent is bytes and numbers of 64 bits.
 -- Assumes nothing.
 use mathlib.Core.Path.{◌≡◌, refl}
-use mathlib.Core.Bool.{Bool, true, false, cond, not}
+use mathlib.Core.Bool.{Bool, true, false, cond}
 use mathlib.Core.List.{List}
 use Prim.Native.Nat.{ℕ, zero, suc, ◌-◌, ◌<◌, ◌^◌}
 use native.Mathlib.Omega.{arith}
 use lib.Dec.{eqb, ltb}
 use lib.ListN.{drop}
-use borrow.Author.Tests.{lt-ltb, eqb-false, not-true}
+use borrow.Author.Tests.{lt-ltb, eqb-false}
 use Rattle.endian.specs.Le.{Bytes, room}
 use Rattle.endian.proofs.Fields.{bytes_drop}
 use Rattle.records.specs.Records.{chunks, records}
 use Rattle.records.specs.Stages.{every}
-use Rattle.records.proofs.Tests.{both, every_map, every_picked, first_of_zero, whenever-zero, unless-zero}
+use Rattle.records.proofs.Tests.{both, every_map, every_picked, first_of_zero, whenever-zero}
 use Rattle.item.specs.Items.{Fields, decode, items, ranged}
 use Rattle.table.specs.declared.Row.{Row}
 use Rattle.table.specs.Rows.{rows}

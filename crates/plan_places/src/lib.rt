@@ -2,7 +2,6 @@
 #![tactic(auto)]
 
 ghost use Rattle.std.specs.Prelude.{◌≡◌, true, ℕ};
-ghost use Rattle.records.specs.Lent.{old};
 ghost use Rattle.records.specs.Stages.{unless, every};
 ghost use Rattle.table.specs.declared.Row.{Row};
 ghost use Rattle.table.specs.Rows.{rows, table_kept};

@@ -2,7 +2,6 @@
 #![tactic(auto)]
 
 ghost use Rattle.std.specs.Prelude.{true, ◌&&◌, [], ◌≡◌, ◌+◌, ◌<◌, ◌^◌, length};
-ghost use Rattle.records.specs.Lent.{old, new};
 ghost use Rattle.item.specs.Items.{items};
 ghost use Rattle.cut_def.specs.Mappings.{holder};
 ghost use Rattle.cut_segment.specs.Segments.{Runs};

@@ -8,7 +8,6 @@ use Rattle.records.specs.Select.{keep, any, count}
 use Rattle.item.specs.Items.{Fields, regular_item, with_numbers}
 use Rattle.table.proofs.Samples.{sample_row}
 use Rattle.item.proofs.Samples.{sample}
-use Rattle.table.specs.declared.Row.{Row}
 use Rattle.table.specs.Rows.{table_kept, find_from}
 use Rattle.lists.specs.Lists.{list_kept}
 use Rattle.request.specs.Lent.{lent_refusal}

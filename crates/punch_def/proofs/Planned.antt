@@ -1,13 +1,13 @@
 -- What a punch that is planned says of all that it was lent. Assumes nothing.
 use mathlib.Core.Path.{◌≡◌, refl, sym}
-use mathlib.Core.Bool.{true, not}
+use mathlib.Core.Bool.{true}
 use mathlib.Core.List.{List, [], ◌∷◌, Memᴰ}
 use mathlib.Core.Option.{some}
 use Prim.Native.Nat.{ℕ, ◌+◌, ◌<◌, ◌^◌}
 use native.Mathlib.Omega.{arith}
 use lib.Dec.{eqb, leb, ltb}
 use lib.ListN.{length}
-use borrow.Author.Tests.{eqb-true, eqb-false, ltb-true, not-true}
+use borrow.Author.Tests.{eqb-true, eqb-false, ltb-true}
 use Rattle.records.specs.Stages.{stage, every}
 use Rattle.records.proofs.Tests.{both, both_left, first_of_zero, whenever-zero, unless-zero, stage-zero}
 use Rattle.item.specs.Items.{Fields, ranged}

@@ -3,7 +3,6 @@
 #![tactic(auto)]
 
 ghost use Rattle.std.specs.Prelude.{◌≡◌, ◌+◌, ◌≤◌, ◌<◌, ◌^◌, length, drop, replicate, leb};
-ghost use Rattle.records.specs.Lent.{old};
 ghost use Rattle.read_field.specs.Words.{starts, behind};
 ghost use Rattle.read_field.specs.Decimal.{is_digit, pushed, digits, plain};
 ghost use Rattle.read_field.specs.Numbers.{no_number, number_at, Ended};

@@ -2,7 +2,6 @@
 #![tactic(auto)]
 
 ghost use Rattle.std.specs.Prelude.{◌≡◌, drop};
-ghost use Rattle.records.specs.Lent.{old};
 ghost use Rattle.read_line.specs.Forms.{shapes, read_by, read_line, Says};
 ghost use Rattle.read_line.specs.Raw.{opened, unread, finished, Opens, read_shape};
 

@@ -1,6 +1,6 @@
 -- `drop_covered` (clone.rs): "a covered item that is no hole is a drop, a release if the extent's references equal its
 -- drops and none of their leaves is shared, else an unref".
-use Rattle.std.specs.Prelude.{Bool, cond, ◌&&◌, ◌||◌, not, ℕ, ◌+◌, eqb, ltb, length}
+use Rattle.std.specs.Prelude.{Bool, cond, ◌&&◌, not, ℕ, eqb, ltb, length}
 use mathlib.Core.List.{List, [], ◌∷◌, map, flat_map}
 use Rattle.records.specs.Stages.{unless, every}
 use Rattle.records.specs.Select.{keep}

@@ -2,7 +2,6 @@
 #![tactic(auto)]
 
 ghost use Rattle.std.specs.Prelude.{◌≡◌};
-ghost use Rattle.records.specs.Lent.{old};
 ghost use Rattle.records.specs.Stages.{unless};
 ghost use Rattle.request.specs.Lent.{sector_sound, size_sound, lent, lent2};
 ghost use Rattle.request.specs.Raw.{fours, fours2, ones, twos};

@@ -2,7 +2,6 @@
 #![tactic(auto)]
 
 ghost use Rattle.std.specs.Prelude.{◌≡◌, true, ◌+◌, ◌*◌, ◌≤◌, length, drop};
-ghost use Rattle.records.specs.Lent.{old};
 ghost use Rattle.records.specs.Stages.{unless};
 ghost use Rattle.item.specs.Items.{fields};
 ghost use Rattle.table.specs.Rows.{row_of, rows, table_kept, find, one_more_reference};

@@ -4,7 +4,6 @@ use lib.Seq.{length-take-le}
 use Rattle.apply.proofs.Accepted.{lent_facts, lent_rising, lent-sector, lent_rows}
 use Rattle.apply.proofs.Whole.{result_refused, result_fits, result_done}
 use native.Mathlib.Omega.{arith}
-use borrow.Author.Rules.{rules}
 use Rattle.apply.proofs.apply_counted.Goals as goal
 
 pub overflow_mul-end : goal.overflow_mul-end

@@ -5,7 +5,6 @@ use Rattle.apply_def.specs.Lent.{parts_of}
 use Rattle.apply.proofs.Accepted.{lent-ones, lent-others, lent-listed, lent-tabled, lent_ready, lent-apply}
 use Rattle.apply.proofs.Whole.{met-refused, met-same}
 use native.Mathlib.Omega.{arith}
-use borrow.Author.Rules.{rules}
 use Rattle.apply.proofs.apply_plan.Goals as goal
 
 pub returns-then-size-ne0 : goal.returns-then-size-ne0

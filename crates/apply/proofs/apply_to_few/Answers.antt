@@ -1,5 +1,4 @@
 use Rattle.apply.proofs.Whole.{zeroed}
-use borrow.Author.Rules.{rules}
 use Rattle.apply.proofs.apply_to_few.Goals as goal
 
 pub apply_zeroed-requires : goal.apply_zeroed-requires

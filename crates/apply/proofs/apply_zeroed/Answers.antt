@@ -4,7 +4,6 @@ use lib.Seq.{length-take-le}
 use Rattle.apply_def.specs.Lent.{plan_lent, parts_of}
 use Rattle.apply.proofs.Accepted.{lent_facts, lent_rows}
 use native.Mathlib.Omega.{arith}
-use borrow.Author.Rules.{rules}
 use Rattle.apply.proofs.apply_zeroed.Goals as goal
 
 pub overflow_mul-stop : goal.overflow_mul-stop

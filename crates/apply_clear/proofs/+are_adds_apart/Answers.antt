@@ -1,5 +1,4 @@
-use mathlib.Core.Path.{sym}
-use Prim.Native.Nat.{ℕ, ◌/◌, ◌<◌, ◌≤◌}
+use Prim.Native.Nat.{◌/◌, ◌≤◌}
 use native.Mathlib.Omega.{arith}
 use lib.ListN.{length}
 use Rattle.apply_clear.proofs.Extents.{half_long, half_refused}

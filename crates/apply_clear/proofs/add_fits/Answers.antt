@@ -1,7 +1,6 @@
 use mathlib.Core.Path.{◌∙◌, ap₂}
 use mathlib.Core.Bool.{Bool, ◌&&◌}
 use Prim.Native.Nat.{◌*◌}
-use borrow.Author.Rules.{rules}
 use Rattle.apply_clear.proofs.Clear.{add_told}
 use Rattle.apply_clear.proofs.add_fits.Goals as goal
 

@@ -1,4 +1,3 @@
-use borrow.Author.Rules.{rules}
 use Rattle.table.specs.Rows.{rows}
 use Rattle.plan_def.specs.ReadBack.{adds_in}
 use Rattle.apply_clear.proofs.Clear.{fits_told}

@@ -1,11 +1,4 @@
-use mathlib.Core.Path.{◌≡◌, ◌∙◌, refl}
-use Prim.Native.Nat.{◌-◌, ◌/◌, ◌≤◌}
-use borrow.Author.Tests.{not-true, not-false}
-use lib.ListN.{length, drop}
-use Rattle.records.specs.Stages.{unless, every}
-use Rattle.table.specs.Rows.{rows}
-use Rattle.plan_def.specs.ReadBack.{adds_in}
-use Rattle.apply_clear.specs.Clear.{add_alone}
+use mathlib.Core.Path.{◌∙◌, refl}
 use Rattle.apply_clear.proofs.Clear.{fit_turn, fit_stop, fit_done}
 use native.Mathlib.Omega.{arith}
 use Rattle.apply_clear.proofs.each_refusal.Goals as goal

@@ -1,13 +1,10 @@
-use mathlib.Core.Path.{◌≡◌, ◌∙◌, refl}
+use mathlib.Core.Path.{◌≡◌}
 use Prim.Native.Nat.{◌-◌, ◌/◌, ◌≤◌}
-use borrow.Author.Tests.{not-true, not-false}
 use lib.ListN.{length, drop}
 use Rattle.records.specs.Stages.{unless, every}
 use Rattle.table.specs.Rows.{rows}
 use Rattle.plan_def.specs.ReadBack.{adds_in}
 use Rattle.apply_clear.specs.Clear.{add_alone}
-use Rattle.apply_clear.proofs.Clear.{fit_turn, fit_stop, fit_done}
-use native.Mathlib.Omega.{arith}
 use Rattle.apply_clear.proofs.each_refusal.Given as goal
 
 abbrev pub invariant-loop-k : goal.invariant-loop-k

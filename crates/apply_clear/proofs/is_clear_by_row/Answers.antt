@@ -1,15 +1,10 @@
-use mathlib.Core.Path.{◌≡◌, ◌∙◌, refl, ap}
+use mathlib.Core.Path.{◌∙◌, refl, ap}
 use mathlib.Core.Bool.{Bool, ◌||◌, not}
-use Prim.Native.Nat.{◌-◌, ◌/◌, ◌≤◌}
-use borrow.Author.Tests.{not-true, not-false}
 use lib.Dec.{eqb}
-use lib.ListN.{length, get_or, drop}
-use Rattle.table.specs.Rows.{rows}
+use lib.ListN.{get_or}
 use Rattle.table.proofs.Laws.{rows-length}
-use Rattle.apply_clear.specs.Clear.{clear_from}
 use Rattle.apply_clear.proofs.Clear.{rows-turn, rows_stop, rows-done}
 use native.Mathlib.Omega.{arith}
-use borrow.Author.Rules.{rules}
 use Rattle.apply_clear.proofs.is_clear_by_row.Goals as goal
 
 pub loop-k-init : goal.loop-k-init

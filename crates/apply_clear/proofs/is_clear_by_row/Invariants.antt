@@ -1,15 +1,8 @@
-use mathlib.Core.Path.{◌≡◌, ◌∙◌, refl, ap}
-use mathlib.Core.Bool.{Bool, ◌||◌, not}
+use mathlib.Core.Path.{◌≡◌}
 use Prim.Native.Nat.{◌-◌, ◌/◌, ◌≤◌}
-use borrow.Author.Tests.{not-true, not-false}
-use lib.Dec.{eqb}
-use lib.ListN.{length, get_or, drop}
+use lib.ListN.{length, drop}
 use Rattle.table.specs.Rows.{rows}
-use Rattle.table.proofs.Laws.{rows-length}
 use Rattle.apply_clear.specs.Clear.{clear_from}
-use Rattle.apply_clear.proofs.Clear.{rows-turn, rows_stop, rows-done}
-use native.Mathlib.Omega.{arith}
-use borrow.Author.Rules.{rules}
 use Rattle.apply_clear.proofs.is_clear_by_row.Given as goal
 
 abbrev pub invariant-loop-k : goal.invariant-loop-k

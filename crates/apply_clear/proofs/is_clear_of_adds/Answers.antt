@@ -1,13 +1,6 @@
-use mathlib.Core.Path.{◌≡◌, ◌∙◌, refl}
-use Prim.Native.Nat.{◌-◌, ◌/◌, ◌≤◌}
-use borrow.Author.Tests.{not-true, not-false}
-use lib.ListN.{length, drop}
-use Rattle.records.specs.Stages.{every}
-use Rattle.plan_def.specs.ReadBack.{adds_in}
-use Rattle.apply_clear.specs.Clear.{clear_of}
+use mathlib.Core.Path.{◌∙◌, refl}
 use Rattle.apply_clear.proofs.Clear.{adds-turn, adds_stop, adds-done}
 use native.Mathlib.Omega.{arith}
-use borrow.Author.Rules.{rules}
 use Rattle.apply_clear.proofs.is_clear_of_adds.Goals as goal
 
 pub loop-j-init : goal.loop-j-init

@@ -1,5 +1,4 @@
 use mathlib.Core.Path.{◌∙◌, sym}
-use borrow.Author.Rules.{rules}
 use Rattle.table.specs.Rows.{rows}
 use Rattle.apply_clear.proofs.Clear.{all_clear}
 use Rattle.apply_clear.proofs.is_clear_of_rows.Goals as goal

@@ -1,5 +1,4 @@
 use native.Mathlib.Omega.{arith}
-use borrow.Author.Rules.{rules}
 use Rattle.records.proofs.Lists.{array_room, array_same}
 use Rattle.apply_clear.proofs.many_apart.Goals as goal
 

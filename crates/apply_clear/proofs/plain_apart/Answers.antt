@@ -1,11 +1,5 @@
-use mathlib.Core.Path.{◌≡◌, ◌∙◌, refl}
-use Prim.Native.Nat.{◌-◌, ◌/◌, ◌≤◌}
+use mathlib.Core.Path.{◌∙◌, refl}
 use native.Mathlib.Omega.{arith}
-use borrow.Author.Tests.{not-true, not-false}
-use lib.ListN.{length, drop}
-use Rattle.records.specs.Stages.{pairs}
-use Rattle.plan_def.specs.ReadBack.{adds_in}
-use Rattle.apply_clear.specs.Clear.{adds_apart}
 use Rattle.apply_clear.proofs.Clear.{apart-turn, apart_stop, apart-done}
 use Rattle.apply_clear.proofs.plain_apart.Goals as goal
 

@@ -1,12 +1,9 @@
-use mathlib.Core.Path.{◌≡◌, ◌∙◌, refl}
+use mathlib.Core.Path.{◌≡◌}
 use Prim.Native.Nat.{◌-◌, ◌/◌, ◌≤◌}
-use native.Mathlib.Omega.{arith}
-use borrow.Author.Tests.{not-true, not-false}
 use lib.ListN.{length, drop}
 use Rattle.records.specs.Stages.{pairs}
 use Rattle.plan_def.specs.ReadBack.{adds_in}
 use Rattle.apply_clear.specs.Clear.{adds_apart}
-use Rattle.apply_clear.proofs.Clear.{apart-turn, apart_stop, apart-done}
 use Rattle.apply_clear.proofs.plain_apart.Given as goal
 
 abbrev pub invariant-loop-k : goal.invariant-loop-k

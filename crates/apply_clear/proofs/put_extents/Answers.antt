@@ -1,6 +1,5 @@
-use Prim.Native.Nat.{◌-◌}
 use native.Mathlib.Omega.{arith}
-use Rattle.apply_clear.proofs.Extents.{Copying, copying_all, copying-room, copying-turn, copying-done, copying-length}
+use Rattle.apply_clear.proofs.Extents.{copying_all, copying-room, copying-turn, copying-done, copying-length}
 use Rattle.apply_clear.proofs.put_extents.Goals as goal
 
 pub loop-k-init : goal.loop-k-init

@@ -1,6 +1,5 @@
 use mathlib.Core.Path.{◌∙◌}
 use native.Mathlib.Omega.{arith}
-use borrow.Author.Rules.{rules}
 use Rattle.apply_clear.proofs.Extents.{copied-length, copied-room, copied-apart}
 use Rattle.apply_clear.proofs.sorted_apart.Goals as goal
 

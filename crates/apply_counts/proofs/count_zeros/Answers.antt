@@ -1,10 +1,10 @@
-use mathlib.Core.Path.{◌≡◌, ◌∙◌, refl, ap}
-use Prim.Native.Nat.{ℕ, ◌+◌, ◌-◌, ◌≤◌}
+use mathlib.Core.Path.{◌∙◌, refl, ap}
+use Prim.Native.Nat.{ℕ}
 use native.Mathlib.Nat.{zero-add}
 use lib.Dec.{eqb}
 use lib.ListN.{length, get_or}
 use Rattle.records.specs.Select.{count}
-use Rattle.records.proofs.Loops.{rest, head, rest-ones, head_at, count_turn, count-done, one_more}
+use Rattle.records.proofs.Loops.{head, rest-ones, head_at, count_turn, count-done, one_more}
 use native.Mathlib.Omega.{arith}
 use Rattle.apply_counts.proofs.count_zeros.Goals as goal
 

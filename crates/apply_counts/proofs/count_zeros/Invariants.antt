@@ -1,11 +1,9 @@
-use mathlib.Core.Path.{◌≡◌, ◌∙◌, refl, ap}
+use mathlib.Core.Path.{◌≡◌}
 use Prim.Native.Nat.{ℕ, ◌+◌, ◌-◌, ◌≤◌}
-use native.Mathlib.Nat.{zero-add}
 use lib.Dec.{eqb}
-use lib.ListN.{length, get_or}
+use lib.ListN.{length}
 use Rattle.records.specs.Select.{count}
-use Rattle.records.proofs.Loops.{rest, head, rest-ones, head_at, count_turn, count-done, one_more}
-use native.Mathlib.Omega.{arith}
+use Rattle.records.proofs.Loops.{rest, head}
 use Rattle.apply_counts.proofs.count_zeros.Given as goal
 
 abbrev pub invariant-loop-i : goal.invariant-loop-i

@@ -1,8 +1,6 @@
 use mathlib.Core.Path.{◌≡◌, ◌∙◌, refl}
-use Prim.Native.Nat.{◌-◌, ◌/◌, ◌≤◌}
 use lib.ListN.{length}
-use Rattle.table.specs.Rows.{rows}
-use Rattle.apply_counts.proofs.Lines.{Marking, mark-start, mark-turn, mark-done}
+use Rattle.apply_counts.proofs.Lines.{mark-start, mark-turn, mark-done}
 use native.Mathlib.Omega.{arith}
 use borrow.Author.Rules.{rules}
 use Rattle.apply_counts.proofs.mark.Goals as goal

@@ -1,10 +1,8 @@
-use mathlib.Core.Path.{◌≡◌, ◌∙◌, refl}
+use mathlib.Core.Path.{◌≡◌}
 use Prim.Native.Nat.{◌-◌, ◌/◌, ◌≤◌}
 use lib.ListN.{length}
 use Rattle.table.specs.Rows.{rows}
-use Rattle.apply_counts.proofs.Lines.{Marking, mark-start, mark-turn, mark-done}
-use native.Mathlib.Omega.{arith}
-use borrow.Author.Rules.{rules}
+use Rattle.apply_counts.proofs.Lines.{Marking}
 use Rattle.apply_counts.proofs.mark.Given as goal
 
 abbrev pub invariant-loop-i : goal.invariant-loop-i

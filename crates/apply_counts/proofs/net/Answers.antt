@@ -1,6 +1,5 @@
 use Rattle.apply_counts.proofs.Nets.{net_says}
 use native.Mathlib.Omega.{arith}
-use borrow.Author.Rules.{rules}
 use Rattle.apply_counts.proofs.net.Goals as goal
 
 pub overflow_sub-result-then-gained-lost : goal.overflow_sub-result-then-gained-lost

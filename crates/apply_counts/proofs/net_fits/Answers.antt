@@ -1,7 +1,6 @@
 use mathlib.Core.Path.{◌∙◌}
 use Rattle.apply_counts.proofs.Nets.{net_low, net_high}
 use native.Mathlib.Omega.{arith}
-use borrow.Author.Rules.{rules}
 use Rattle.apply_counts.proofs.net_fits.Goals as goal
 
 pub returns-then-gained-lost : goal.returns-then-gained-lost

@@ -1,14 +1,7 @@
-use mathlib.Core.Path.{◌≡◌, ◌∙◌, refl}
-use borrow.Author.Tests.{not-true, not-false}
-use Prim.Native.Nat.{◌-◌, ◌/◌, ◌≤◌}
-use lib.ListN.{length, drop}
-use Rattle.records.specs.Stages.{unless}
-use Rattle.table.specs.Rows.{rows}
+use mathlib.Core.Path.{◌∙◌, refl}
 use Rattle.table.proofs.Laws.{rows-length}
-use Rattle.apply_counts.specs.Counts.{nets_from}
 use Rattle.apply_counts.proofs.Nets.{nets_turn, nets_stop, nets_done}
 use native.Mathlib.Omega.{arith}
-use borrow.Author.Rules.{rules}
 use Rattle.apply_counts.proofs.nets_refusal.Goals as goal
 
 pub loop-k-init : goal.loop-k-init

@@ -1,14 +1,9 @@
-use mathlib.Core.Path.{◌≡◌, ◌∙◌, refl}
-use borrow.Author.Tests.{not-true, not-false}
+use mathlib.Core.Path.{◌≡◌}
 use Prim.Native.Nat.{◌-◌, ◌/◌, ◌≤◌}
 use lib.ListN.{length, drop}
 use Rattle.records.specs.Stages.{unless}
 use Rattle.table.specs.Rows.{rows}
-use Rattle.table.proofs.Laws.{rows-length}
 use Rattle.apply_counts.specs.Counts.{nets_from}
-use Rattle.apply_counts.proofs.Nets.{nets_turn, nets_stop, nets_done}
-use native.Mathlib.Omega.{arith}
-use borrow.Author.Rules.{rules}
 use Rattle.apply_counts.proofs.nets_refusal.Given as goal
 
 abbrev pub invariant-loop-k : goal.invariant-loop-k

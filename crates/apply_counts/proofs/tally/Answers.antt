@@ -1,8 +1,6 @@
 use mathlib.Core.Path.{◌≡◌, ◌∙◌, refl}
-use Prim.Native.Nat.{◌-◌, ◌/◌, ◌≤◌}
 use lib.ListN.{length}
-use Rattle.table.specs.Rows.{rows}
-use Rattle.apply_counts.proofs.Lines.{Tallying, tally_start, tally_room, tally_turn, tally_done}
+use Rattle.apply_counts.proofs.Lines.{tally_start, tally_room, tally_turn, tally_done}
 use native.Mathlib.Omega.{arith}
 use borrow.Author.Rules.{rules}
 use Rattle.apply_counts.proofs.tally.Goals as goal

@@ -1,10 +1,8 @@
-use mathlib.Core.Path.{◌≡◌, ◌∙◌, refl}
+use mathlib.Core.Path.{◌≡◌}
 use Prim.Native.Nat.{◌-◌, ◌/◌, ◌≤◌}
 use lib.ListN.{length}
 use Rattle.table.specs.Rows.{rows}
-use Rattle.apply_counts.proofs.Lines.{Tallying, tally_start, tally_room, tally_turn, tally_done}
-use native.Mathlib.Omega.{arith}
-use borrow.Author.Rules.{rules}
+use Rattle.apply_counts.proofs.Lines.{Tallying}
 use Rattle.apply_counts.proofs.tally.Given as goal
 
 abbrev pub invariant-loop-i : goal.invariant-loop-i

@@ -1,7 +1,6 @@
 use mathlib.Core.Path.{◌∙◌, sym}
 use Rattle.apply_counts.proofs.Lines.{there, tallied, tallied_none}
 use native.Mathlib.Omega.{arith}
-use borrow.Author.Rules.{rules}
 use Rattle.apply_counts.proofs.tally_line.Goals as goal
 
 pub returns-in_default : goal.returns-in_default

@@ -1,9 +1,5 @@
-use mathlib.Core.Path.{◌≡◌, ◌∙◌, sym}
-use Prim.Native.Nat.{◌+◌, ◌-◌, ◌/◌, ◌≤◌}
+use mathlib.Core.Path.{◌∙◌, sym}
 use native.Mathlib.Nat.{zero-add}
-use lib.ListN.{length, drop}
-use Rattle.plan_def.specs.ReadBack.{edits_in}
-use Rattle.apply_items.specs.Passes.{puts_in}
 use Rattle.records.proofs.Loops.{one_more}
 use Rattle.apply_items.proofs.Back.{puts-turn, puts-done}
 use native.Mathlib.Omega.{arith}

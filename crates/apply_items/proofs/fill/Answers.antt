@@ -1,7 +1,3 @@
-use Prim.Native.Nat.{◌+◌, ◌-◌}
-use lib.ListN.{take}
-use Rattle.item.specs.Items.{items}
-use Rattle.apply_items.specs.Passes.{Filling}
 use Rattle.apply_items.proofs.Back.{fill_start, fill_result, fill_end}
 use native.Mathlib.Omega.{arith}
 use Rattle.apply_items.proofs.fill.Goals as goal

@@ -1,9 +1,7 @@
-use Prim.Native.Nat.{◌+◌, ◌-◌}
+use Prim.Native.Nat.{◌+◌}
 use lib.ListN.{take}
 use Rattle.item.specs.Items.{items}
 use Rattle.apply_items.specs.Passes.{Filling}
-use Rattle.apply_items.proofs.Back.{fill_start, fill_result, fill_end}
-use native.Mathlib.Omega.{arith}
 use Rattle.apply_items.proofs.fill.Given as goal
 
 abbrev pub invariant-loop-at : goal.invariant-loop-at

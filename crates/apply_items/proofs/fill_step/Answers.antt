@@ -1,8 +1,6 @@
 use mathlib.Core.Path.{◌∙◌, sym}
-use borrow.Author.Tests.{not-true, not-false}
 use Rattle.apply_items.proofs.Back.{over-true, put-there, fill_delete, fill_put, fill_old}
 use native.Mathlib.Omega.{arith}
-use borrow.Author.Rules.{rules}
 use Rattle.apply_items.proofs.fill_step.Goals as goal
 
 pub returns-then-not-is_put : goal.returns-then-not-is_put

@@ -1,5 +1,4 @@
 use Rattle.apply_items.proofs.Front.{below_none, below-some}
-use borrow.Author.Rules.{rules}
 use Rattle.apply_items.proofs.is_below.Goals as goal
 
 pub returns-then-j-edits : goal.returns-then-j-edits

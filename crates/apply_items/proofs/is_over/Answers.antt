@@ -1,5 +1,4 @@
 use Rattle.apply_items.proofs.Back.{over_none, over-some}
-use borrow.Author.Rules.{rules}
 use Rattle.apply_items.proofs.is_over.Goals as goal
 
 pub returns-then-i-eq0 : goal.returns-then-i-eq0

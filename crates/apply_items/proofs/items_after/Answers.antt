@@ -3,7 +3,6 @@ use Prim.Native.Nat.{ℕ, ◌+◌}
 use Rattle.apply_items.proofs.Back.{puts-few}
 use Rattle.apply_items.proofs.Whole.{items-first, packed_rises, now_many, after-done}
 use native.Mathlib.Omega.{arith}
-use borrow.Author.Rules.{rules}
 use Rattle.apply_items.proofs.items_after.Goals as goal
 
 pub pack-kept-requires : goal.pack-kept-requires

@@ -1,6 +1,3 @@
-use Prim.Native.Nat.{◌+◌, ◌-◌, ◌/◌}
-use lib.ListN.{length}
-use Rattle.apply_items.specs.Passes.{Packing}
 use Rattle.apply_items.proofs.Front.{pack_start, pack_done}
 use native.Mathlib.Omega.{arith}
 use Rattle.apply_items.proofs.pack.Goals as goal

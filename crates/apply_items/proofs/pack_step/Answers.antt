@@ -1,6 +1,5 @@
 use Rattle.apply_items.proofs.Front.{pack_below, pack_at, pack_on}
 use native.Mathlib.Omega.{arith}
-use borrow.Author.Rules.{rules}
 use Rattle.apply_items.proofs.pack_step.Goals as goal
 
 pub returns-then-is_below : goal.returns-then-is_below

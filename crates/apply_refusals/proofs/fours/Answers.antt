@@ -1,7 +1,5 @@
 use mathlib.Core.Path.{◌∙◌, sym}
-use borrow.Author.Tests.{not-true, not-false}
 use Rattle.request.proofs.Stages.{sector-some, sector-four, sector_go}
-use borrow.Author.Rules.{rules}
 use Rattle.apply_refusals.proofs.fours.Goals as goal
 
 pub returns-then-not-sector_sound : goal.returns-then-not-sector_sound

@@ -1,6 +1,5 @@
 use mathlib.Core.Path.{◌∙◌, ap₂}
 use Rattle.records.specs.Stages.{first}
-use borrow.Author.Rules.{rules}
 use Rattle.apply_refusals.proofs.lent_refusal.Goals as goal
 
 pub returns : goal.returns

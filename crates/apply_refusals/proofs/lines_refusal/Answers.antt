@@ -1,7 +1,6 @@
 use mathlib.Core.Path.{◌∙◌, ap, ap₂}
 use mathlib.Core.Bool.{Bool, ◌&&◌}
 use Rattle.records.specs.Stages.{unless}
-use borrow.Author.Rules.{rules}
 use Rattle.apply_refusals.proofs.lines_refusal.Goals as goal
 
 pub returns : goal.returns

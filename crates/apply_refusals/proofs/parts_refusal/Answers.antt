@@ -7,7 +7,6 @@ use Rattle.records.specs.Stages.{first}
 use Rattle.records.proofs.Tests.{first-unless}
 use Rattle.apply_walk.specs.Checks.{edits_sized}
 use native.Mathlib.Omega.{arith}
-use borrow.Author.Rules.{rules}
 use Rattle.apply_refusals.proofs.parts_refusal.Goals as goal
 
 pub returns : goal.returns

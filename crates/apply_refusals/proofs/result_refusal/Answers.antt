@@ -7,7 +7,6 @@ use Rattle.records.specs.Stages.{first, unless}
 use Rattle.table.proofs.Laws.{rows-length}
 use Rattle.apply_refusals.proofs.Results.{zeros_at, zeros_few, rows_long, result_stop, result_go}
 use native.Mathlib.Omega.{arith}
-use borrow.Author.Rules.{rules}
 use Rattle.apply_refusals.proofs.result_refusal.Goals as goal
 
 pub slice_bounds-count_zeros-end : goal.slice_bounds-count_zeros-end

@@ -1,7 +1,6 @@
 use mathlib.Core.Path.{◌∙◌, ap₂}
 use Rattle.records.specs.Stages.{first}
 use Rattle.apply_refusals.proofs.Lent.{ones-told}
-use borrow.Author.Rules.{rules}
 use Rattle.apply_refusals.proofs.size_refusal.Goals as goal
 
 pub returns : goal.returns

@@ -1,12 +1,8 @@
-use mathlib.Core.Path.{◌≡◌, ◌∙◌, ap}
+use mathlib.Core.Path.{◌∙◌, ap}
 use mathlib.Core.Bool.{Bool}
-use Prim.Native.Nat.{◌-◌, ◌/◌, ◌≤◌, max}
-use lib.ListN.{length}
-use Rattle.records.specs.Stages.{unless, pairs}
+use Rattle.records.specs.Stages.{unless}
 use Rattle.cut_def.specs.Edits.{key_of}
-use Rattle.apply_def.specs.Apply.{edits_rise}
-use Rattle.plan_def.specs.ReadBack.{edits_in}
-use Rattle.apply_walk.proofs.Checks.{near, rising_near, order-turn, order_stop, order-done}
+use Rattle.apply_walk.proofs.Checks.{rising_near, order-turn, order_stop, order-done}
 use native.Mathlib.Omega.{arith}
 use Rattle.apply_walk.proofs.edits_order_refusal.Goals as goal
 

@@ -1,13 +1,10 @@
-use mathlib.Core.Path.{◌≡◌, ◌∙◌, ap}
-use mathlib.Core.Bool.{Bool}
+use mathlib.Core.Path.{◌≡◌}
 use Prim.Native.Nat.{◌-◌, ◌/◌, ◌≤◌, max}
 use lib.ListN.{length}
 use Rattle.records.specs.Stages.{unless, pairs}
-use Rattle.cut_def.specs.Edits.{key_of}
 use Rattle.apply_def.specs.Apply.{edits_rise}
 use Rattle.plan_def.specs.ReadBack.{edits_in}
-use Rattle.apply_walk.proofs.Checks.{near, rising_near, order-turn, order_stop, order-done}
-use native.Mathlib.Omega.{arith}
+use Rattle.apply_walk.proofs.Checks.{near}
 use Rattle.apply_walk.proofs.edits_order_refusal.Given as goal
 
 abbrev pub invariant-loop-k : goal.invariant-loop-k

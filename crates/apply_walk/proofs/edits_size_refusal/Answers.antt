@@ -9,7 +9,6 @@ use Rattle.apply_def.specs.Lent.{tag_sound}
 use Rattle.records.proofs.Tests.{first-unless}
 use native.Mathlib.Omega.{arith}
 use Rattle.records.specs.Stages.{first}
-use borrow.Author.Rules.{rules}
 use Rattle.apply_walk.proofs.edits_size_refusal.Goals as goal
 
 pub returns : goal.returns

@@ -1,7 +1,6 @@
 use mathlib.Core.Bool.{true}
 use mathlib.Core.Path.{◌∙◌, sym}
 use native.Mathlib.Omega.{arith}
-use borrow.Author.Rules.{rules}
 use Rattle.apply_walk.proofs.Merge.{gone-there, walked_last, walked_old, walked_put, walked_delete}
 use Rattle.apply_walk.proofs.next_record.Goals as goal
 

@@ -1,13 +1,8 @@
-use mathlib.Core.Path.{◌≡◌, ◌∙◌, ap, sym}
+use mathlib.Core.Path.{◌≡◌}
 use Prim.Native.Nat.{◌+◌, ◌-◌, ◌/◌, ◌≤◌}
-use native.Mathlib.Nat.{add-zero, zero-add}
 use lib.ListN.{length}
 use Rattle.apply_walk.specs.Merge.{left}
-use Rattle.apply_walk.proofs.Checks.{walk_done, length_now, length_most, length-turn}
-use borrow.Author.Rules.{rules}
 use lib.ListN.{length}
-use Rattle.apply_walk.proofs.Checks.{walk_done, length-turn}
-use native.Mathlib.Omega.{arith}
 use Rattle.apply_walk.proofs.result_length.Given as goal
 
 abbrev pub invariant-loop-i : goal.invariant-loop-i

@@ -1,10 +1,5 @@
-use mathlib.Core.Path.{◌≡◌, ◌∙◌, sym}
-use Prim.Native.Nat.{◌+◌, ◌-◌, ◌/◌, ◌≤◌}
-use lib.ListN.{length}
-use Rattle.records.specs.Stages.{unless}
-use Rattle.apply_walk.specs.Merge.{left}
-use Rattle.apply_walk.specs.Checks.{items_now, result_sound}
-use Rattle.apply_walk.proofs.Checks.{walk_done, result_sieve, result_turn_lem, result_stop, result_done, result_all}
+use mathlib.Core.Path.{◌∙◌, sym}
+use Rattle.apply_walk.proofs.Checks.{walk_done, result_turn_lem, result_stop, result_done, result_all}
 use native.Mathlib.Omega.{arith}
 use Rattle.apply_walk.proofs.result_refusal.Goals as goal
 

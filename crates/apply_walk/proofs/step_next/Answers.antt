@@ -1,9 +1,7 @@
 use mathlib.Core.Path.{◌∙◌, sym}
 use Rattle.item.specs.Items.{fields}
-use borrow.Author.Tests.{not-true, not-false}
 use Rattle.records.proofs.Tests.{cond_yes, cond_no}
 use Rattle.apply_walk.proofs.Checks.{turn-zero}
-use borrow.Author.Rules.{rules}
 use Rattle.apply_walk.proofs.step_next.Goals as goal
 
 pub returns-then-not-is_some : goal.returns-then-not-is_some

@@ -1,9 +1,7 @@
 use mathlib.Core.Path.{◌∙◌, ap, ap₂}
 use mathlib.Core.Bool.{Bool}
-use borrow.Author.Tests.{not-true, not-false}
 use Rattle.records.specs.Stages.{unless, first}
 use Rattle.records.proofs.Tests.{cond_yes, cond_no}
-use borrow.Author.Rules.{rules}
 use Rattle.apply_walk.proofs.step_refusal.Goals as goal
 
 pub returns-then-not-is_some : goal.returns-then-not-is_some

@@ -1,16 +1,10 @@
-use mathlib.Core.Path.{◌≡◌, ◌∙◌, refl}
+use mathlib.Core.Path.{◌∙◌, refl}
 use mathlib.Core.Bool.{Bool}
-use Prim.Native.Nat.{◌-◌, ◌/◌, ◌≤◌}
-use lib.ListN.{length}
-use Rattle.records.specs.Records.{records}
-use Rattle.records.specs.Stages.{unless, stage, every}
-use Rattle.records.proofs.Loops.{rest, rest_all, stage-turn, stage_stop, stage-done}
+use Rattle.records.specs.Stages.{unless}
+use Rattle.records.proofs.Loops.{rest_all, stage-turn, stage_stop, stage-done}
 use Rattle.records.proofs.Tests.{stage-every}
 use Rattle.apply_def.specs.Lent.{tag_sound}
 use Rattle.plan_lines.proofs.Edits.{tag_read}
-use borrow.Author.Rules.{rules}
-use Prim.Native.Nat.{◌-◌, ◌/◌, ◌≤◌}
-use lib.ListN.{length}
 use native.Mathlib.Omega.{arith}
 use Rattle.apply_walk.proofs.tags_refusal.Goals as goal
 

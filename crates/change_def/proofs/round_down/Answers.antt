@@ -1,6 +1,5 @@
 use native.Mathlib.Nat.{div-mul-le_self}
 use native.Mathlib.Omega.{arith}
-use borrow.Author.Rules.{rules}
 use Rattle.change_def.proofs.round_down.Goals as goal
 
 pub overflow_mul-result : goal.overflow_mul-result

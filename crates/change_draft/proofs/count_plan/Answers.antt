@@ -1,5 +1,4 @@
 use Rattle.change_draft.proofs.Drafting.{none_pieced, none-counted}
-use borrow.Author.Rules.{rules}
 use Rattle.change_draft.proofs.count_plan.Goals as goal
 
 pub lay_plan-requires : goal.lay_plan-requires

@@ -1,4 +1,3 @@
-use borrow.Author.Rules.{rules}
 use Rattle.change_draft.proofs.Drafting.{passed, refusal-same, base_fair, started, ends_now, draft_refused, holes_fit, draft_planned, numbers_fit, sides_fit}
 use native.Mathlib.Omega.{arith}
 use mathlib.Core.Path.{◌∙◌, sym}

@@ -1,6 +1,5 @@
 use Rattle.change_draft.proofs.Drafting.{sides-told}
 use mathlib.Core.Path.{◌∙◌, sym}
-use borrow.Author.Rules.{rules}
 use Rattle.change_draft.proofs.extents_of.Goals as goal
 
 pub side_of-requires : goal.side_of-requires

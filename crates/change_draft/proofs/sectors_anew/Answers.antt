@@ -1,6 +1,5 @@
 use Rattle.change_draft.proofs.Drafting.{two-counted, one-few}
 use native.Mathlib.Omega.{arith}
-use borrow.Author.Rules.{rules}
 use Rattle.change_draft.proofs.sectors_anew.Goals as goal
 
 pub counted-requires-2 : goal.counted-requires-2

@@ -1,7 +1,6 @@
 use mathlib.Core.Path.{◌∙◌}
 use Prim.Native.Nat.{◌-◌}
 use native.Mathlib.Omega.{arith}
-use borrow.Author.Rules.{rules}
 use Rattle.item.proofs.Laws.{items-length}
 use Rattle.change_holes.proofs.Gaps.{record_end, starts_first, starts-behind}
 use Rattle.change_holes.proofs.gap_start.Goals as goal

@@ -1,6 +1,5 @@
 use mathlib.Core.Path.{◌∙◌}
 use native.Mathlib.Omega.{arith}
-use borrow.Author.Rules.{rules}
 use Rattle.item.proofs.Laws.{items-length}
 use Rattle.change_holes.proofs.Gaps.{stops_before, stops_last}
 use Rattle.change_holes.proofs.gap_stop.Goals as goal

@@ -1,6 +1,5 @@
 use mathlib.Core.Path.{◌∙◌, ap}
 use Prim.Native.Nat.{ℕ, min}
-use borrow.Author.Rules.{rules}
 use Rattle.change_def.specs.Preallocs.{piece_limit}
 use Rattle.change_holes.proofs.Walking.{walked}
 use Rattle.change_holes.proofs.next_piece.Goals as goal

@@ -1,10 +1,7 @@
-use mathlib.Core.Path.{◌≡◌, refl, ◌∙◌, sym}
-use Prim.Native.Nat.{◌-◌}
+use mathlib.Core.Path.{◌∙◌, sym}
 use native.Mathlib.Omega.{arith}
-use borrow.Author.Rules.{rules}
 use Rattle.item.specs.Items.{items}
 use Rattle.item.proofs.Laws.{items-length}
-use Rattle.change_holes.specs.Walk.{left}
 use Rattle.change_holes.proofs.Walking.{stretches-length, turning, left-turn, settled}
 use Rattle.change_holes.proofs.settle.Goals as goal
 

@@ -1,11 +1,7 @@
-use mathlib.Core.Path.{◌≡◌, refl, ◌∙◌, sym}
+use mathlib.Core.Path.{◌≡◌}
 use Prim.Native.Nat.{◌-◌}
-use native.Mathlib.Omega.{arith}
-use borrow.Author.Rules.{rules}
 use Rattle.item.specs.Items.{items}
-use Rattle.item.proofs.Laws.{items-length}
 use Rattle.change_holes.specs.Walk.{left}
-use Rattle.change_holes.proofs.Walking.{stretches-length, turning, left-turn, settled}
 use Rattle.change_holes.proofs.settle.Given as goal
 
 abbrev pub invariant-loop-rest : goal.invariant-loop-rest

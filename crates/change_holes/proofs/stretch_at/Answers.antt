@@ -1,4 +1,3 @@
-use borrow.Author.Rules.{rules}
 use Rattle.change_holes.proofs.Walking.{at_one, at-two, at_swept}
 use Rattle.change_holes.proofs.stretch_at.Goals as goal
 

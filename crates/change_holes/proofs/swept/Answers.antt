@@ -1,4 +1,3 @@
-use borrow.Author.Rules.{rules}
 use Rattle.change_holes.proofs.Gaps.{swept_even, swept_odd}
 use Rattle.change_holes.proofs.swept.Goals as goal
 

@@ -1,6 +1,5 @@
 use Rattle.change_lay.proofs.Laying.{ready_now, rising, below, edits-laid}
 use native.Mathlib.Omega.{arith}
-use borrow.Author.Rules.{rules}
 use Rattle.change_lay.proofs.lay_edits.Goals as goal
 
 pub changed_segment-s-requires : goal.changed_segment-s-requires

@@ -1,5 +1,4 @@
 use Rattle.change_lay.proofs.Laying.{can_write, plan-laid}
-use borrow.Author.Rules.{rules}
 use Rattle.change_lay.proofs.lay_plan.Goals as goal
 
 pub put_writes-w-requires : goal.put_writes-w-requires

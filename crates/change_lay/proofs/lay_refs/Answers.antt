@@ -1,6 +1,5 @@
 use Rattle.change_lay.proofs.Laying.{ready_now, refs-laid}
 use native.Mathlib.Omega.{arith}
-use borrow.Author.Rules.{rules}
 use Rattle.change_lay.proofs.lay_refs.Goals as goal
 
 pub joined_segment-s-requires : goal.joined_segment-s-requires

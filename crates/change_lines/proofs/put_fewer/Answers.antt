@@ -2,7 +2,6 @@ use Rattle.item.specs.Items.{items}
 use Rattle.change_lines.proofs.Spans.{middle-most}
 use Rattle.change_lines.proofs.Spans.{list-room, seg_room, middle-part, segment_part}
 use native.Mathlib.Omega.{arith}
-use borrow.Author.Rules.{rules}
 use Rattle.change_lines.proofs.put_fewer.Goals as goal
 
 pub overflow_mul-from : goal.overflow_mul-from

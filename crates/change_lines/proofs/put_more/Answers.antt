@@ -1,7 +1,6 @@
 use Rattle.change_lines.proofs.Spans.{segment_most}
 use Rattle.change_lines.proofs.Spans.{list-room, seg_room, middle-part, segment_part}
 use native.Mathlib.Omega.{arith}
-use borrow.Author.Rules.{rules}
 use Rattle.change_lines.proofs.put_more.Goals as goal
 
 pub overflow_mul-from : goal.overflow_mul-from

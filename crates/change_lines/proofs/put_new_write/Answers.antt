@@ -1,8 +1,6 @@
 use Rattle.plan_lines.proofs.Loops.{laid-yes, laid-no}
 use Rattle.plan_def.specs.Outputs.{write_numbers}
-use borrow.Author.Tests.{not-true, not-false}
 use mathlib.Core.Path.{refl}
-use borrow.Author.Rules.{rules}
 use Rattle.change_lines.proofs.put_new_write.Goals as goal
 
 pub returns-then-not-anew : goal.returns-then-not-anew

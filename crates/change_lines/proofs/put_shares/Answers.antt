@@ -4,7 +4,6 @@ use Rattle.plan_def.specs.Outputs.{ref_numbers}
 use Rattle.item.specs.Items.{items}
 use mathlib.Core.List.{[], ◌∷◌}
 use native.Mathlib.Omega.{arith}
-use borrow.Author.Rules.{rules}
 use Rattle.change_lines.proofs.put_shares.Goals as goal
 
 pub put_more-requires : goal.put_more-requires

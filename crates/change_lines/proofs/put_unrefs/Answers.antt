@@ -7,7 +7,6 @@ use Rattle.plan_def.specs.Outputs.{ref_numbers}
 use Rattle.item.specs.Items.{items}
 use mathlib.Core.List.{[], ◌∷◌}
 use native.Mathlib.Omega.{arith}
-use borrow.Author.Rules.{rules}
 use Rattle.change_lines.proofs.put_unrefs.Goals as goal
 
 pub put_drops-requires : goal.put_drops-requires

@@ -6,7 +6,6 @@ use Rattle.change_def.specs.Rewrites.{write_in_place}
 use Rattle.plan_lines.proofs.Laws.{laid_append}
 use Rattle.plan_def.specs.Outputs.{write_numbers}
 use native.Mathlib.Omega.{arith}
-use borrow.Author.Rules.{rules}
 use Rattle.change_lines.proofs.put_writes.Goals as goal
 
 pub put_new_write-m-requires : goal.put_new_write-m-requires

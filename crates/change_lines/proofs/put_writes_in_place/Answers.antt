@@ -4,7 +4,6 @@ use Rattle.change_def.specs.Rewrites.{write_in_place}
 use Rattle.plan_lines.proofs.Laws.{laid_append}
 use Rattle.plan_def.specs.Outputs.{write_numbers}
 use native.Mathlib.Omega.{arith}
-use borrow.Author.Rules.{rules}
 use Rattle.change_lines.proofs.put_writes_in_place.Goals as goal
 
 pub put_in_place-requires : goal.put_in_place-requires

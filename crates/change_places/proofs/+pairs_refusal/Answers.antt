@@ -1,4 +1,4 @@
-use Prim.Native.Nat.{◌/◌, ◌<◌, ◌≤◌}
+use Prim.Native.Nat.{◌/◌}
 use native.Mathlib.Omega.{arith}
 use lib.ListN.{length}
 use Rattle.change_places.proofs.Ahead.{half_long, part-refused}

@@ -1,14 +1,9 @@
-use mathlib.Core.Bool.{Bool}
-use mathlib.Core.Path.{◌∙◌, ap, refl}
 use Prim.Native.Nat.{◌-◌}
-use native.Mathlib.Omega.{arith}
-use borrow.Author.Rules.{rules}
 use Rattle.records.specs.Stages.{unless, every}
 use Rattle.item.specs.Items.{items}
 use Rattle.plan_def.specs.Places.{places_apart}
-use Rattle.change_holes.specs.Walk.{left}
 use Rattle.change_places.specs.Wishes.{add_at}
-use Rattle.change_places.proofs.Ahead.{Testing, ahead, testing_turn, testing_stop, testing_done, every_cons, every-none}
+use Rattle.change_places.proofs.Ahead.{Testing, ahead}
 use Rattle.change_places.proofs.apart_refusal.Given as goal
 
 abbrev pub invariant-loop-n : goal.invariant-loop-n

@@ -1,14 +1,12 @@
 use mathlib.Core.List.{map}
 use Prim.Native.Nat.{◌-◌}
-use native.Mathlib.Omega.{arith}
-use borrow.Author.Rules.{rules}
 use Rattle.records.specs.Stages.{unless, every}
 use Rattle.item.specs.Items.{items}
 use Rattle.table.specs.Rows.{rows}
 use Rattle.plan_def.specs.Places.{placed, place_sound}
 use Rattle.change_holes.specs.Walk.{wishes}
 use Rattle.change_places.specs.Wishes.{wanted_of}
-use Rattle.change_places.proofs.Ahead.{enough, Testing, testing_all, testing_turn, testing_stop, testing_done, every_cons, every-none}
+use Rattle.change_places.proofs.Ahead.{Testing}
 use Rattle.change_places.proofs.each_refusal.Given as goal
 
 abbrev pub invariant-loop-n : goal.invariant-loop-n

@@ -1,6 +1,5 @@
 use mathlib.Core.Path.{◌∙◌, sym}
 use lib.ListN.{length-map}
-use borrow.Author.Rules.{rules}
 use Rattle.item.specs.Items.{items}
 use Rattle.plan_places.proofs.Laws.{places_wrong}
 use Rattle.change_holes.specs.Walk.{wishes}

@@ -1,13 +1,6 @@
-use mathlib.Core.List.{map}
-use Prim.Native.Nat.{◌-◌}
-use native.Mathlib.Omega.{arith}
-use borrow.Author.Rules.{rules}
-use Rattle.records.specs.Stages.{unless, every, pairs}
-use Rattle.item.specs.Items.{items}
-use Rattle.plan_def.specs.Places.{placed, places_apart}
-use Rattle.change_holes.specs.Walk.{wishes}
-use Rattle.change_places.specs.Wishes.{wanted_of}
-use Rattle.change_places.proofs.Ahead.{Testing, even_next, testing_all, testing_turn, testing_stop, testing_done, pairs_cons, pairs-none}
+use Rattle.records.specs.Stages.{every}
+use Rattle.plan_def.specs.Places.{places_apart}
+use Rattle.change_places.proofs.Ahead.{even_next, testing_all, testing_turn, testing_stop, testing_done, pairs_cons, pairs-none}
 use Rattle.change_places.proofs.plain_refusal.Goals as goal
 
 pub loop-n-init : goal.loop-n-init

@@ -1,13 +1,11 @@
 use mathlib.Core.List.{map}
 use Prim.Native.Nat.{◌-◌}
-use native.Mathlib.Omega.{arith}
-use borrow.Author.Rules.{rules}
-use Rattle.records.specs.Stages.{unless, every, pairs}
+use Rattle.records.specs.Stages.{unless, pairs}
 use Rattle.item.specs.Items.{items}
 use Rattle.plan_def.specs.Places.{placed, places_apart}
 use Rattle.change_holes.specs.Walk.{wishes}
 use Rattle.change_places.specs.Wishes.{wanted_of}
-use Rattle.change_places.proofs.Ahead.{Testing, even_next, testing_all, testing_turn, testing_stop, testing_done, pairs_cons, pairs-none}
+use Rattle.change_places.proofs.Ahead.{Testing}
 use Rattle.change_places.proofs.plain_refusal.Given as goal
 
 abbrev pub invariant-loop-n : goal.invariant-loop-n

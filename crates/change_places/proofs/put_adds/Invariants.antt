@@ -1,10 +1,7 @@
-use mathlib.Core.Path.{refl}
 use Prim.Native.Nat.{◌-◌}
-use native.Mathlib.Omega.{arith}
-use borrow.Author.Rules.{rules}
 use Rattle.item.specs.Items.{items}
 use Rattle.plan_def.specs.Outputs.{add_numbers}
-use Rattle.change_places.proofs.Ahead.{enough, Adding, adding_all, adding_room, adding_turn, adding_done, adding_length}
+use Rattle.change_places.proofs.Ahead.{Adding}
 use Rattle.change_places.proofs.put_adds.Given as goal
 
 abbrev pub invariant-loop-n : goal.invariant-loop-n

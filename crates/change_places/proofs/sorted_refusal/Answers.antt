@@ -2,7 +2,6 @@ use mathlib.Core.Bool.{Bool}
 use mathlib.Core.List.{map}
 use mathlib.Core.Path.{◌∙◌, ap, refl}
 use native.Mathlib.Omega.{arith}
-use borrow.Author.Rules.{rules}
 use Rattle.records.specs.Stages.{unless}
 use Rattle.item.specs.Items.{items}
 use Rattle.plan_lines.proofs.Loops.{laid-length}

@@ -5,7 +5,6 @@ use Rattle.item.specs.Items.{items}
 use Rattle.change_rewrites.proofs.Holding.{sound-runs}
 use native.Mathlib.Omega.{arith}
 use mathlib.Core.Path.{◌∙◌, sym, ap}
-use borrow.Author.Rules.{rules}
 use Rattle.change_range.proofs.change_range.Goals as goal
 
 pub parts_of-p-requires : goal.parts_of-p-requires

@@ -1,7 +1,6 @@
 use Rattle.change_draft.proofs.Drafting.{ends_now}
 use Rattle.change_range.proofs.Finish.{adds-many, finish_refused, places-sound, rooms_fit, finish_planned}
 use Rattle.plan_def.specs.Outputs.{outs}
-use borrow.Author.Rules.{rules}
 use Rattle.change_range.proofs.finish_change.Goals as goal
 
 pub finish_refusal-short-requires : goal.finish_refusal-short-requires

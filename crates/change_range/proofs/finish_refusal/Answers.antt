@@ -1,7 +1,6 @@
 use Rattle.change_range.proofs.Finish.{why-told}
 use Rattle.item.specs.Items.{items}
 use Rattle.table.specs.Rows.{rows}
-use borrow.Author.Rules.{rules}
 use Rattle.change_range.proofs.finish_refusal.Goals as goal
 
 pub returns : goal.returns

@@ -1,6 +1,5 @@
 use lib.ListN.{get_or-eq_default}
 use mathlib.Core.Path.{sym}
-use borrow.Author.Rules.{rules}
 use Rattle.change_range.proofs.place_at.Goals as goal
 
 pub returns-else-n-places : goal.returns-else-n-places

@@ -4,7 +4,6 @@ use Rattle.change_range.proofs.Finish.{wishes-places, order-at, part_fits, part-
 use Rattle.change_segment.specs.Sides.{front_new, back_new}
 use Rattle.plan_def.specs.Outputs.{outs}
 use native.Mathlib.Omega.{arith}
-use borrow.Author.Rules.{rules}
 use Rattle.change_range.proofs.write_plan.Goals as goal
 
 pub overflow_mul-from : goal.overflow_mul-from

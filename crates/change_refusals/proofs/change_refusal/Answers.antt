@@ -2,7 +2,6 @@ use Rattle.change_refusals.proofs.Refusing.{change_last, change-told}
 use Rattle.change_segment.proofs.Planned.{ready}
 use Rattle.table.specs.Rows.{rows}
 use native.Mathlib.Omega.{arith}
-use borrow.Author.Rules.{rules}
 use Rattle.change_refusals.proofs.change_refusal.Goals as goal
 
 pub returns-then-v-eq18446744073709551615 : goal.returns-then-v-eq18446744073709551615

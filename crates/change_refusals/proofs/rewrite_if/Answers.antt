@@ -2,8 +2,6 @@ use Rattle.change_rewrites.specs.Raw.{lent_ground}
 use Rattle.change_def.specs.Rewrites.{rewrite_refusal}
 use Rattle.change_refusals.proofs.Refusing.{one-stage, no-stage}
 use mathlib.Core.Path.{◌∙◌}
-use borrow.Author.Tests.{not-true, not-false}
-use borrow.Author.Rules.{rules}
 use Rattle.change_refusals.proofs.rewrite_if.Goals as goal
 
 pub returns-then-not-has : goal.returns-then-not-has

@@ -3,7 +3,6 @@ use Rattle.change_def.specs.Rewrites.{rewrite_refusal}
 use Rattle.change_refusals.proofs.Refusing.{sides-stage}
 use Rattle.records.specs.Stages.{first}
 use mathlib.Core.Path.{◌∙◌, ap₂}
-use borrow.Author.Rules.{rules}
 use Rattle.change_refusals.proofs.rewrites_refusal.Goals as goal
 
 pub returns : goal.returns

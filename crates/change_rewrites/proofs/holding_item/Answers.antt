@@ -2,7 +2,6 @@ use mathlib.Core.Path.{◌∙◌}
 use native.Mathlib.Omega.{arith}
 use Rattle.item.proofs.Laws.{items-length}
 use Rattle.change_rewrites.proofs.Holding.{holder-none, holder_stop, holder_free}
-use borrow.Author.Rules.{rules}
 use Rattle.change_rewrites.proofs.holding_item.Goals as goal
 
 pub returns-then-list-i : goal.returns-then-list-i

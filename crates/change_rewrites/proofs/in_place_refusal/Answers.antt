@@ -3,7 +3,6 @@ use Rattle.table.specs.Rows.{rows}
 use Rattle.item.specs.Items.{items}
 use Rattle.change_rewrites.proofs.Refusing.{in_place_missing, in-place-found}
 use mathlib.Core.Path.{◌∙◌, sym}
-use borrow.Author.Rules.{rules}
 use Rattle.change_rewrites.proofs.in_place_refusal.Goals as goal
 
 pub returns-in_default : goal.returns-in_default

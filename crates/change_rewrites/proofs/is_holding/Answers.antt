@@ -2,7 +2,6 @@ use lib.Dec.{leb, ltb}
 use Prim.Native.Nat.{ℕ, ◌+◌}
 use mathlib.Core.Bool.{Bool, ◌&&◌}
 use mathlib.Core.Path.{ap, ap₂, ◌∙◌}
-use borrow.Author.Rules.{rules}
 use Rattle.change_rewrites.proofs.is_holding.Goals as goal
 
 pub returns : goal.returns

@@ -1,7 +1,6 @@
 use Rattle.item.specs.Items.{fields, written_in_place}
 use Prim.Native.Nat.{ℕ, ◌+◌}
 use mathlib.Core.Path.{◌∙◌, ap}
-use borrow.Author.Rules.{rules}
 use Rattle.change_rewrites.proofs.item_in_place.Goals as goal
 
 pub returns : goal.returns

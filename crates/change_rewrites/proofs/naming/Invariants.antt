@@ -1,15 +1,9 @@
-use native.Mathlib.Nat.{zero-add}
-use mathlib.Core.Path.{refl}
 use Rattle.cut_def.specs.Refs.{names, naming}
-use Rattle.item.proofs.Laws.{item-decode, rest-items, items-length}
 use Rattle.item.specs.Items.{decode, items}
-use Rattle.records.proofs.Counts.{count-length}
-use Rattle.records.proofs.Loops.{rest, count_turn, count-done}
+use Rattle.records.proofs.Loops.{rest}
 use Rattle.records.specs.Select.{count}
-use borrow.Author.Rules.{rules}
 use Prim.Native.Nat.{◌-◌, ◌≤◌, ◌+◌}
-use mathlib.Core.Path.{◌≡◌, ◌∙◌}
-use native.Mathlib.Omega.{arith}
+use mathlib.Core.Path.{◌≡◌}
 use Rattle.change_rewrites.proofs.naming.Given as goal
 
 abbrev pub invariant-loop-i : goal.invariant-loop-i

@@ -1,7 +1,6 @@
 use Rattle.change_rewrites.proofs.Refusing.{position_facts}
 use Rattle.item.specs.Items.{fields}
 use native.Mathlib.Omega.{arith}
-use borrow.Author.Rules.{rules}
 use Rattle.change_rewrites.proofs.position_of.Goals as goal
 
 pub overflow_sub-result : goal.overflow_sub-result

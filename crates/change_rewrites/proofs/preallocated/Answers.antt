@@ -1,9 +1,7 @@
-use borrow.Author.Tests.{not-true, not-false}
 use Rattle.item.specs.Items.{items}
 use Rattle.ref_def.specs.Drops.{in_leaves}
 use Rattle.change_def.specs.Rewrites.{preallocated_in}
 use Rattle.change_rewrites.proofs.Holding.{found-preallocated, unasked}
-use borrow.Author.Rules.{rules}
 use Rattle.change_rewrites.proofs.preallocated.Goals as goal
 
 pub returns-then-not-has : goal.returns-then-not-has

@@ -4,7 +4,6 @@ use Rattle.plan_def.specs.Outputs.{write_numbers}
 use borrow.Author.Tests.{not-true, not-false}
 use mathlib.Core.Bool.{true, false}
 use native.Mathlib.Omega.{arith}
-use borrow.Author.Rules.{rules}
 use Rattle.change_rewrites.proofs.put_in_place.Goals as goal
 
 pub returns-then-not-h : goal.returns-then-not-h

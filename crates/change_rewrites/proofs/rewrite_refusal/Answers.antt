@@ -8,7 +8,6 @@ use Rattle.change_rewrites.proofs.Refusing.{rewrite_none, rewrite-anew, rewrite-
 use Rattle.change_rewrites.proofs.Holding.{sound-runs, found_some, found_none}
 use Rattle.change_rewrites.specs.Raw.{holder_leaf, lent_ground, in_place_why}
 use mathlib.Core.Path.{◌∙◌, sym, ap}
-use borrow.Author.Rules.{rules}
 use Rattle.change_rewrites.proofs.rewrite_refusal.Goals as goal
 
 pub holding_item-h-requires : goal.holding_item-h-requires

@@ -1,6 +1,5 @@
 use Rattle.change_segment.proofs.Puts.{new1, new_all}
 use native.Mathlib.Omega.{arith}
-use borrow.Author.Rules.{rules}
 use Rattle.change_segment.proofs.changed_segment.Goals as goal
 
 pub insert_new-requires : goal.insert_new-requires

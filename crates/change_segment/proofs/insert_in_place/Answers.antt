@@ -1,6 +1,5 @@
 use Rattle.change_segment.proofs.Puts.{put-yes, when_no}
 use borrow.Author.Tests.{not-true, not-false}
-use borrow.Author.Rules.{rules}
 use Rattle.change_segment.proofs.insert_in_place.Goals as goal
 
 pub returns-then-not-h : goal.returns-then-not-h

@@ -1,6 +1,4 @@
 use Rattle.change_segment.proofs.Puts.{put-yes, when_no}
-use borrow.Author.Tests.{not-true, not-false}
-use borrow.Author.Rules.{rules}
 use Rattle.change_segment.proofs.insert_new.Goals as goal
 
 pub returns-then-not-anew : goal.returns-then-not-anew

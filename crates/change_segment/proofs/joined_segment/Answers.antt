@@ -1,6 +1,5 @@
 use Rattle.change_segment.proofs.Puts.{made1, join_front, join_back, made_all}
 use native.Mathlib.Omega.{arith}
-use borrow.Author.Rules.{rules}
 use Rattle.change_segment.proofs.joined_segment.Goals as goal
 
 pub insert_in_place-one-requires : goal.insert_in_place-one-requires

@@ -4,7 +4,6 @@ use mathlib.Core.Path.{◌∙◌, ap, sym}
 use Rattle.plan_def.specs.Outputs.{outs}
 use Rattle.request.specs.Answers.{said}
 use Rattle.clone.proofs.Finishing.{chosen_now, range-refused, range-nothing, range-ends, range_replacing, range-numbers, range-finished}
-use borrow.Author.Rules.{rules}
 use Rattle.clone.proofs.clone_range.Goals as goal
 
 pub draft_clone-draft-requires : goal.draft_clone-draft-requires

@@ -1,7 +1,6 @@
 use Rattle.item.specs.Items.{items}
 use Rattle.table.specs.Rows.{rows}
 use Rattle.clone.proofs.Asking.{copies-told}
-use borrow.Author.Rules.{rules}
 use Rattle.clone.proofs.copies_asked.Goals as goal
 
 pub drops_refusal-drop-requires : goal.drops_refusal-drop-requires

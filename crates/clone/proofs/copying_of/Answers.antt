@@ -1,5 +1,4 @@
 use Rattle.clone.proofs.Asking.{copying-told}
-use borrow.Author.Rules.{rules}
 use Rattle.clone.proofs.copying_of.Goals as goal
 
 pub returns : goal.returns

@@ -1,7 +1,6 @@
 use Rattle.item.specs.Items.{items}
 use Rattle.table.specs.Rows.{rows}
 use Rattle.clone.proofs.Finishing.{counted-now}
-use borrow.Author.Rules.{rules}
 use Rattle.clone.proofs.count_clone.Goals as goal
 
 pub returns : goal.returns

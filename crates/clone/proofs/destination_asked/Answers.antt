@@ -1,7 +1,6 @@
 use Rattle.item.specs.Items.{items}
 use Rattle.request.proofs.Stages.{sector-some}
 use Rattle.clone.proofs.Asking.{asked-told}
-use borrow.Author.Rules.{rules}
 use Rattle.clone.proofs.destination_asked.Goals as goal
 
 pub growth_refusal-grows-requires : goal.growth_refusal-grows-requires

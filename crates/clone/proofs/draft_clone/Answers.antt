@@ -1,6 +1,5 @@
 use Rattle.clone.proofs.Drafting.{draft_lent, draft_nothing, draft_ends, draft_table, draft_sound, draft_asked, draft_files, draft_runs, draft_size, draft_copies, draft_replacing, draft_planned}
 use native.Mathlib.Omega.{arith}
-use borrow.Author.Rules.{rules}
 use Rattle.clone.proofs.draft_clone.Goals as goal
 
 pub returns-then-lent-ne0 : goal.returns-then-lent-ne0

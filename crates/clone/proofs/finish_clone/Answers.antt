@@ -4,7 +4,6 @@ use Rattle.item.specs.Items.{items}
 use Rattle.table.specs.Rows.{rows}
 use Rattle.plan_def.specs.Outputs.{outs}
 use Rattle.clone.proofs.Finishing.{finish_refused, finish_planned}
-use borrow.Author.Rules.{rules}
 use Rattle.clone.proofs.finish_clone.Goals as goal
 
 pub returns-then-short-ne0 : goal.returns-then-short-ne0

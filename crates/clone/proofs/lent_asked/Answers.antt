@@ -1,5 +1,4 @@
 use Rattle.clone.proofs.Asking.{lent_stop, lent_go, lent-sector}
-use borrow.Author.Rules.{rules}
 use Rattle.clone.proofs.lent_asked.Goals as goal
 
 pub returns-then-lent-ne0 : goal.returns-then-lent-ne0

@@ -1,5 +1,4 @@
 use Rattle.clone.proofs.Asking.{meant-told}
-use borrow.Author.Rules.{rules}
 use Rattle.clone.proofs.meant.Goals as goal
 
 pub returns : goal.returns

@@ -1,11 +1,7 @@
-use mathlib.Core.Path.{◌≡◌}
-use Prim.Native.Nat.{◌/◌, ◌+◌, ◌-◌, ◌≤◌}
+use Prim.Native.Nat.{◌/◌}
 use lib.ListN.{length}
-use Rattle.records.proofs.Loops.{rest}
-use Rattle.item.specs.Items.{fields, decode, items}
+use Rattle.item.specs.Items.{fields}
 use Rattle.item.proofs.Laws.{item-decode, rest-items}
-use Rattle.cut_def.specs.Pieces.{counted_bytes}
-use Rattle.clone_items.specs.Copies.{clones}
 use Rattle.clone_copies.proofs.Walk.{sound_read, bytes-turn, bytes-done}
 use native.Mathlib.Omega.{arith}
 use Rattle.clone_copies.proofs.copied_bytes.Goals as goal

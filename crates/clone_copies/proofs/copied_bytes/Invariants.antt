@@ -1,13 +1,9 @@
 use mathlib.Core.Path.{◌≡◌}
-use Prim.Native.Nat.{◌/◌, ◌+◌, ◌-◌, ◌≤◌}
-use lib.ListN.{length}
+use Prim.Native.Nat.{◌+◌, ◌-◌, ◌≤◌}
 use Rattle.records.proofs.Loops.{rest}
-use Rattle.item.specs.Items.{fields, decode, items}
-use Rattle.item.proofs.Laws.{item-decode, rest-items}
+use Rattle.item.specs.Items.{decode, items}
 use Rattle.cut_def.specs.Pieces.{counted_bytes}
 use Rattle.clone_items.specs.Copies.{clones}
-use Rattle.clone_copies.proofs.Walk.{sound_read, bytes-turn, bytes-done}
-use native.Mathlib.Omega.{arith}
 use Rattle.clone_copies.proofs.copied_bytes.Given as goal
 
 abbrev pub invariant-loop-i : goal.invariant-loop-i

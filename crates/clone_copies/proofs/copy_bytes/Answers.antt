@@ -1,10 +1,8 @@
-use borrow.Author.Tests.{not-true, not-false}
 use Rattle.item.specs.Items.{fields}
 use Rattle.clone_items.specs.Copies.{copied}
 use Rattle.clone_copies.proofs.Walk.{copy_able, copy_length}
 use Rattle.records.proofs.Tests.{cond_yes, cond_no}
 use mathlib.Core.Path.{◌∙◌, sym}
-use borrow.Author.Rules.{rules}
 use Rattle.clone_copies.proofs.copy_bytes.Goals as goal
 
 pub returns-then-not-is_copied : goal.returns-then-not-is_copied

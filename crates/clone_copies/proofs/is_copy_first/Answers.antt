@@ -4,7 +4,6 @@ use Rattle.item.specs.Items.{fields}
 use Rattle.item.proofs.Laws.{item-decode}
 use Rattle.clone_items.specs.Copies.{clone_item}
 use Rattle.clone_copies.proofs.Walk.{able_read, copy_none, copy_leads}
-use borrow.Author.Rules.{rules}
 use Rattle.clone_copies.proofs.is_copy_first.Goals as goal
 
 pub returns-then-k-source : goal.returns-then-k-source

@@ -3,7 +3,6 @@ use native.Mathlib.Omega.{arith}
 use Rattle.item.specs.Items.{fields}
 use Rattle.item.proofs.Laws.{item-decode}
 use Rattle.clone_copies.proofs.Walk.{leads-end, leads-at}
-use borrow.Author.Rules.{rules}
 use Rattle.clone_copies.proofs.is_leading.Goals as goal
 
 pub returns-then-j-segment : goal.returns-then-j-segment

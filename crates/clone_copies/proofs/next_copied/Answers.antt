@@ -1,10 +1,6 @@
-use mathlib.Core.Path.{◌≡◌, refl, ◌∙◌, sym}
-use Prim.Native.Nat.{◌-◌, ◌≤◌}
-use borrow.Author.Rules.{rules}
+use mathlib.Core.Path.{refl, ◌∙◌, sym}
 use Rattle.item.specs.Items.{fields}
 use Rattle.item.proofs.Laws.{item-decode}
-use Rattle.edit_merge.specs.Merge.{from}
-use Rattle.clone_items.specs.Copies.{clones}
 use Rattle.clone_copies.proofs.Walk.{walk_passed, sought_at, sought_none}
 use native.Mathlib.Omega.{arith}
 use Rattle.clone_copies.proofs.next_copied.Goals as goal

@@ -4,7 +4,6 @@ use Rattle.item.proofs.Laws.{item-decode}
 use Rattle.clone_items.specs.Copies.{clone_item}
 use Rattle.clone_copies.proofs.Walk.{able_read, copy_some}
 use Rattle.clone_copies.proofs.Steps.{next_copy, next-rest}
-use borrow.Author.Rules.{rules}
 use Rattle.clone_copies.proofs.next_new.Goals as goal
 
 pub item_at-requires : goal.item_at-requires

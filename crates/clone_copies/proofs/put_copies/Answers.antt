@@ -1,14 +1,5 @@
-use mathlib.Core.Path.{◌≡◌, refl}
-use Prim.Native.Nat.{◌+◌, ◌-◌, ◌/◌, ◌≤◌}
-use lib.ListN.{length}
-use Rattle.item.specs.Items.{items}
+use mathlib.Core.Path.{refl}
 use Rattle.item.proofs.Laws.{items-length}
-use Rattle.cut_def.specs.Edits.{edits}
-use Rattle.plan_def.specs.Outputs.{edit_bytes}
-use Rattle.plan_lines.proofs.Laws.{Going}
-use Rattle.edit_merge.specs.Merge.{together}
-use Rattle.clone_items.specs.Copies.{clones}
-use Rattle.clone_copies.specs.Walk.{edits_from, Good}
 use Rattle.clone_copies.proofs.Steps.{good-first, going_start, steps-turn, steps-end}
 use native.Mathlib.Omega.{arith}
 use Rattle.clone_copies.proofs.put_copies.Goals as goal

@@ -1,4 +1,3 @@
-use borrow.Author.Tests.{not-true, not-false}
 use Rattle.plan_def.specs.Outputs.{ref_numbers}
 use Rattle.item.specs.Items.{fields}
 use Rattle.cut_def.specs.Refs.{ref_of}
@@ -6,7 +5,6 @@ use Rattle.plan_lines.proofs.Loops.{laid-no, laid-yes}
 use Rattle.clone_items.specs.Copies.{clone_item, copied}
 use Rattle.clone_copies.proofs.Walk.{copy_able, copy_ref}
 use mathlib.Core.Path.{◌∙◌, sym}
-use borrow.Author.Rules.{rules}
 use Rattle.clone_copies.proofs.put_copy_ref.Goals as goal
 
 pub returns-then-not-is_copied : goal.returns-then-not-is_copied

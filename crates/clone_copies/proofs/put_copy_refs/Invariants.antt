@@ -1,18 +1,12 @@
 use mathlib.Core.List.{map, flat_map}
-use mathlib.Core.Path.{refl}
 use Prim.Native.Nat.{◌+◌, ◌-◌, ◌≤◌}
 use Rattle.records.proofs.Loops.{rest}
-use Rattle.records.proofs.Picks.{only-few}
-use Rattle.item.specs.Items.{fields, decode, items}
-use Rattle.item.proofs.Laws.{item-decode, rest-items, items-length}
+use Rattle.item.specs.Items.{decode, items}
 use Rattle.cut_def.specs.Refs.{ref_of}
 use Rattle.plan_def.specs.Outputs.{ref_numbers}
-use Rattle.plan_lines.proofs.Laws.{Going, going_first}
-use Rattle.plan_lines.proofs.Loops.{flat_turn, flat_done, going_length}
-use Rattle.clone_items.specs.Copies.{clone_item, copied, clones}
+use Rattle.plan_lines.proofs.Laws.{Going}
+use Rattle.clone_items.specs.Copies.{clones}
 use Rattle.clone_copies.specs.Walk.{copy_share}
-use Rattle.clone_copies.proofs.Walk.{sound_read, shares_flat}
-use native.Mathlib.Omega.{arith}
 use Rattle.clone_copies.proofs.put_copy_refs.Given as goal
 
 abbrev pub invariant-loop-i : goal.invariant-loop-i

@@ -1,5 +1,4 @@
 use Rattle.clone_copies.proofs.Steps.{old-left, stepped}
-use borrow.Author.Rules.{rules}
 use Rattle.clone_copies.proofs.step.Goals as goal
 
 pub next_new-next-requires : goal.next_new-next-requires

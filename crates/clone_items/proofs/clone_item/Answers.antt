@@ -1,7 +1,5 @@
 use Rattle.item.specs.Items.{fields}
-use Rattle.clone_items.proofs.Sources.{meets, copy_told}
-use native.Mathlib.Omega.{arith}
-use borrow.Author.Rules.{rules}
+use Rattle.clone_items.proofs.Sources.{copy_told}
 use Rattle.clone_items.proofs.clone_item.Goals as goal
 
 pub returns : goal.returns

@@ -1,7 +1,6 @@
 use mathlib.Core.Path.{◌∙◌, sym}
 use Rattle.item.specs.Items.{fields}
 use Rattle.clone_items.proofs.Sources.{copy_missing, copy_found}
-use borrow.Author.Rules.{rules}
 use Rattle.clone_items.proofs.copy_refusal.Goals as goal
 
 pub returns-in_default : goal.returns-in_default

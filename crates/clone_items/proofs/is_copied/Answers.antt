@@ -1,6 +1,5 @@
 use Rattle.item.specs.Items.{fields}
 use Rattle.clone_items.proofs.Sources.{copied-told}
-use borrow.Author.Rules.{rules}
 use Rattle.clone_items.proofs.is_copied.Goals as goal
 
 pub returns : goal.returns

@@ -1,6 +1,5 @@
 use Rattle.item.specs.Items.{fields}
 use Rattle.clone_items.proofs.Sources.{overlap_told}
-use borrow.Author.Rules.{rules}
 use Rattle.clone_items.proofs.is_overlapping.Goals as goal
 
 pub returns : goal.returns

@@ -1,6 +1,5 @@
 use Rattle.item.specs.Items.{fields}
 use Rattle.clone_items.proofs.Sources.{overlap_hole, overlap_copy}
-use borrow.Author.Rules.{rules}
 use Rattle.clone_items.proofs.overlap_refusal.Goals as goal
 
 pub returns-then-is_hole : goal.returns-then-is_hole

@@ -1,7 +1,5 @@
-use mathlib.Core.Path.{◌∙◌, sym}
 use Rattle.item.specs.Items.{fields}
-use Rattle.clone_items.proofs.Sources.{source_inline, source_eight, kept-range, source-over, source_aside}
-use borrow.Author.Rules.{rules}
+use Rattle.clone_items.proofs.Sources.{source_inline, source_eight, source-over, source_aside}
 use Rattle.clone_items.proofs.source_record.Goals as goal
 
 pub returns-then-kind-eq0 : goal.returns-then-kind-eq0

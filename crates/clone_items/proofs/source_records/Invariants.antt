@@ -1,13 +1,10 @@
-use mathlib.Core.Path.{◌≡◌, ◌∙◌}
+use mathlib.Core.Path.{◌≡◌}
 use Prim.Native.Nat.{◌-◌, ◌≤◌}
 use Rattle.records.specs.Stages.{stage}
-use Rattle.records.proofs.Loops.{rest, stage-turn, stage_stop, stage-done}
+use Rattle.records.proofs.Loops.{rest}
 use Rattle.item.specs.Items.{decode, items}
-use Rattle.item.proofs.Laws.{item-decode, rest-items}
 use Rattle.table.specs.Rows.{rows}
 use Rattle.clone_items.specs.Copies.{source_record}
-use Rattle.clone_items.proofs.Sources.{kept_read}
-use native.Mathlib.Omega.{arith}
 use Rattle.clone_items.proofs.source_records.Given as goal
 
 abbrev pub invariant-loop-i : goal.invariant-loop-i

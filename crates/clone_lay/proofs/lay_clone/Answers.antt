@@ -2,7 +2,6 @@ use mathlib.Core.Path.{refl}
 use Rattle.item.specs.Items.{items}
 use Rattle.table.specs.Rows.{rows}
 use Rattle.clone_lay.proofs.Laid.{plan-laid}
-use borrow.Author.Rules.{rules}
 use Rattle.clone_lay.proofs.lay_clone.Goals as goal
 
 pub returns : goal.returns

@@ -1,7 +1,6 @@
 use native.Mathlib.Omega.{arith}
 use Rattle.item.specs.Items.{items}
 use Rattle.clone_lay.proofs.Laid.{placing_runs}
-use borrow.Author.Rules.{rules}
 use Rattle.clone_lay.proofs.lay_edits.Goals as goal
 
 pub cut_segment-s-requires : goal.cut_segment-s-requires

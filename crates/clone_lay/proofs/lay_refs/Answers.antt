@@ -2,7 +2,6 @@ use Rattle.item.specs.Items.{items}
 use Rattle.table.specs.Rows.{rows}
 use Rattle.clone_lay.proofs.Laid.{placing_runs, refs-laid}
 use native.Mathlib.Omega.{arith}
-use borrow.Author.Rules.{rules}
 use Rattle.clone_lay.proofs.lay_refs.Goals as goal
 
 pub put_drops-requires : goal.put_drops-requires

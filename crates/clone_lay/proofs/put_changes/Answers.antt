@@ -4,7 +4,6 @@ use Rattle.plan_def.specs.Outputs.{edit_bytes}
 use Rattle.change_lines.proofs.Spans.{list-room, seg_room, middle-part, segment_part, segment_most, middle-most}
 use Rattle.clone_lay.proofs.Placed.{old-rises, new-rises, edits-placed}
 use native.Mathlib.Omega.{arith}
-use borrow.Author.Rules.{rules}
 use Rattle.clone_lay.proofs.put_changes.Goals as goal
 
 pub slice_bounds-put_copies-end : goal.slice_bounds-put_copies-end

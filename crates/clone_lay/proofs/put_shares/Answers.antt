@@ -1,7 +1,6 @@
 use Rattle.item.specs.Items.{items}
 use Rattle.clone_lay.proofs.Laid.{placing_runs, shares-room, shares-laid}
 use native.Mathlib.Omega.{arith}
-use borrow.Author.Rules.{rules}
 use Rattle.clone_lay.proofs.put_shares.Goals as goal
 
 pub put_splits-n-requires : goal.put_splits-n-requires

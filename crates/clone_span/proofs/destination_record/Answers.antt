@@ -1,6 +1,5 @@
 use Rattle.item.specs.Items.{fields}
 use Rattle.clone_span.proofs.Asking.{destination_record_told}
-use borrow.Author.Rules.{rules}
 use Rattle.clone_span.proofs.destination_record.Goals as goal
 
 pub returns : goal.returns

@@ -1,11 +1,7 @@
-use borrow.Author.Rules.{rules}
-use mathlib.Core.Path.{◌≡◌, ◌∙◌}
-use Prim.Native.Nat.{◌-◌, ◌≤◌}
-use Rattle.records.specs.Stages.{stage}
-use Rattle.records.proofs.Loops.{rest, stage-turn, stage_stop, stage-done}
-use Rattle.item.specs.Items.{decode, items}
+use mathlib.Core.Path.{◌∙◌}
+use Rattle.records.proofs.Loops.{stage-turn, stage_stop, stage-done}
+use Rattle.item.specs.Items.{decode}
 use Rattle.item.proofs.Laws.{item-decode, rest-items}
-use Rattle.clone_span.specs.Spans.{destination_record}
 use native.Mathlib.Omega.{arith}
 use Rattle.clone_span.proofs.destination_records.Goals as goal
 

@@ -1,5 +1,4 @@
 use Rattle.clone_span.proofs.Asking.{destination-told}
-use borrow.Author.Rules.{rules}
 use Rattle.clone_span.proofs.destination_refusal.Goals as goal
 
 pub returns : goal.returns

@@ -1,5 +1,4 @@
 use Rattle.clone_span.proofs.Asking.{growth-told}
-use borrow.Author.Rules.{rules}
 use Rattle.clone_span.proofs.growth_refusal.Goals as goal
 
 pub returns : goal.returns

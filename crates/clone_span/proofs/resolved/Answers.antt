@@ -2,7 +2,6 @@ use mathlib.Core.Bool.{cond}
 use mathlib.Core.Path.{◌∙◌, ap}
 use Prim.Native.Nat.{ℕ}
 use lib.Dec.{eqb}
-use borrow.Author.Rules.{rules}
 use Rattle.clone_span.proofs.resolved.Goals as goal
 
 pub returns : goal.returns

@@ -1,5 +1,4 @@
 use Rattle.clone_span.proofs.Asking.{source_told}
-use borrow.Author.Rules.{rules}
 use Rattle.clone_span.proofs.source_refusal.Goals as goal
 
 pub returns : goal.returns

@@ -2,7 +2,6 @@ use Prim.Native.Nat.{◌+◌}
 use Rattle.change_def.proofs.Rounding.{up_above}
 use Rattle.clone_span.proofs.Asking.{sector_fits}
 use native.Mathlib.Omega.{arith}
-use borrow.Author.Rules.{rules}
 use Rattle.clone_span.proofs.span_of.Goals as goal
 
 pub round_up-requires : goal.round_up-requires

@@ -1,7 +1,6 @@
 use Rattle.cut_joins.proofs.Joining.{around-told, last_told}
 use mathlib.Core.Path.{refl}
 use native.Mathlib.Omega.{arith}
-use borrow.Author.Rules.{rules}
 use Rattle.cut_joins.proofs.join_around.Goals as goal
 
 pub starting_by-k-requires : goal.starting_by-k-requires

@@ -4,10 +4,8 @@ use Rattle.item.proofs.Laws.{items-length}
 use Rattle.item.specs.Items.{Fields, fields, items}
 use lib.ListN.{length, set}
 use Prim.Native.Nat.{◌+◌, ◌-◌, ◌<◌}
-use borrow.Author.Tests.{not-true, not-false}
 use mathlib.Core.Path.{◌≡◌, ◌∙◌, ap, sym}
 use native.Mathlib.Omega.{arith}
-use borrow.Author.Rules.{rules}
 use Rattle.cut_joins.proofs.join_end.Goals as goal
 
 pub returns-then-s-list : goal.returns-then-s-list

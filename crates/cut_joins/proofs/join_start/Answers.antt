@@ -2,10 +2,8 @@ use Rattle.cut_joins.proofs.Joining.{start_none, start-not, start-yes}
 use Rattle.cut_joins.proofs.Pairs.{joined_fits, bounded_at}
 use Rattle.item.specs.Items.{Fields, fields, items}
 use lib.ListN.{set}
-use borrow.Author.Tests.{not-true, not-false}
 use native.Mathlib.Omega.{arith}
 use mathlib.Core.Path.{◌∙◌, ap, sym}
-use borrow.Author.Rules.{rules}
 use Rattle.cut_joins.proofs.join_start.Goals as goal
 
 pub returns-then-s-eq0 : goal.returns-then-s-eq0

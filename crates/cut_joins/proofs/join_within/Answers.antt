@@ -3,7 +3,6 @@ use Rattle.cut_segment.proofs.Buffer.{items-same}
 use Rattle.item.specs.Items.{Fields, fields, items}
 use lib.ListN.{length, set}
 use Prim.Native.Nat.{◌+◌}
-use borrow.Author.Tests.{not-true, not-false}
 use native.Mathlib.Omega.{arith}
 use mathlib.Core.Path.{◌≡◌, ◌∙◌, ap, sym}
 use borrow.Author.Rules.{rules}

@@ -1,12 +1,8 @@
-use Rattle.cut_segment.proofs.Inserting.{remove_turn, remove_done}
-use Rattle.item.proofs.Laws.{items-length}
 use Rattle.item.specs.Items.{items}
-use borrow.Author.Rules.{rules}
 use lib.ListN.{length, take, drop}
 use Prim.Native.Nat.{◌+◌, ◌-◌, ◌≤◌}
 use mathlib.Core.List.{◌++◌}
-use mathlib.Core.Path.{◌≡◌, ◌∙◌, refl}
-use native.Mathlib.Omega.{arith}
+use mathlib.Core.Path.{◌≡◌}
 use Rattle.cut_joins.proofs.remove.Given as goal
 
 abbrev pub invariant-loop-i : goal.invariant-loop-i

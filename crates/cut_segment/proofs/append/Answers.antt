@@ -1,7 +1,6 @@
 use Rattle.item.proofs.Laws.{items-length}
 use Rattle.cut_segment.proofs.Buffer.{added-one}
 use native.Mathlib.Omega.{arith}
-use borrow.Author.Rules.{rules}
 use Rattle.cut_segment.proofs.append.Goals as goal
 
 pub overflow_add-result : goal.overflow_add-result

@@ -1,5 +1,4 @@
 use Rattle.cut_segment.proofs.Cutting.{back-made}
-use borrow.Author.Rules.{rules}
 use Rattle.cut_segment.proofs.back_of.Goals as goal
 
 pub returns : goal.returns

@@ -1,11 +1,8 @@
 use mathlib.Core.Path.{◌∙◌}
-use borrow.Author.Rules.{rules}
 use Rattle.cut_segment.proofs.Cutting.{ends-told}
-use Rattle.cut_segment.proofs.Halves.{Halving, halving_all, halving_up, halving_down, halving_done, ends_lead}
+use Rattle.cut_segment.proofs.Halves.{halving_all, halving_up, halving_down, halving_done, ends_lead}
 use Rattle.item.proofs.Laws.{items-length}
-use Prim.Native.Nat.{◌-◌}
 use Rattle.item.specs.Items.{items}
-use Rattle.cut_segment.specs.Segments.{ends_by}
 use native.Mathlib.Omega.{arith}
 use Rattle.cut_segment.proofs.ending_by.Goals as goal
 

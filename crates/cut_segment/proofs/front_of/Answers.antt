@@ -1,5 +1,4 @@
 use Rattle.cut_segment.proofs.Cutting.{front_made}
-use borrow.Author.Rules.{rules}
 use Rattle.cut_segment.proofs.front_of.Goals as goal
 
 pub returns : goal.returns

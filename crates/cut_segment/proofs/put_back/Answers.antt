@@ -2,7 +2,7 @@ use Prim.Native.Nat.{◌<◌}
 use Rattle.item.specs.Items.{fields, end}
 use mathlib.Core.Path.{◌∙◌}
 use native.Mathlib.Omega.{arith}
-use borrow.Author.Tests.{not-true, not-false, ltb-true}
+use borrow.Author.Tests.{ltb-true}
 use Rattle.cut_segment.proofs.Cutting.{past-told}
 use Rattle.cut_segment.proofs.Buffer.{added_if, added-unless}
 use borrow.Author.Rules.{rules}

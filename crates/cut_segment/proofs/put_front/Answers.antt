@@ -1,6 +1,5 @@
 use borrow.Author.Tests.{lt-ltb, le-ltb}
 use Rattle.cut_segment.proofs.Buffer.{added_if, added-unless}
-use borrow.Author.Rules.{rules}
 use Rattle.cut_segment.proofs.put_front.Goals as goal
 
 pub returns-then-item-lo : goal.returns-then-item-lo

@@ -1,10 +1,9 @@
 use Rattle.cut_segment.proofs.Inserting.{slide_turn, slide_done}
 use Rattle.item.proofs.Laws.{items-length}
-use Rattle.item.specs.Items.{fields, items}
+use Rattle.item.specs.Items.{items}
 use borrow.Author.Rules.{rules}
-use lib.ListN.{length, take, drop}
-use Prim.Native.Nat.{◌+◌, ◌-◌, ◌≤◌}
-use mathlib.Core.List.{◌∷◌, ◌++◌}
+use lib.ListN.{length}
+use Prim.Native.Nat.{◌≤◌}
 use mathlib.Core.Path.{◌≡◌, ◌∙◌, refl}
 use native.Mathlib.Omega.{arith}
 use Rattle.cut_segment.proofs.slide.Goals as goal

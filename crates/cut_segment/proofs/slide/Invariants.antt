@@ -1,12 +1,8 @@
-use Rattle.cut_segment.proofs.Inserting.{slide_turn, slide_done}
-use Rattle.item.proofs.Laws.{items-length}
 use Rattle.item.specs.Items.{fields, items}
-use borrow.Author.Rules.{rules}
 use lib.ListN.{length, take, drop}
-use Prim.Native.Nat.{◌+◌, ◌-◌, ◌≤◌}
+use Prim.Native.Nat.{◌-◌, ◌≤◌}
 use mathlib.Core.List.{◌∷◌, ◌++◌}
-use mathlib.Core.Path.{◌≡◌, ◌∙◌, refl}
-use native.Mathlib.Omega.{arith}
+use mathlib.Core.Path.{◌≡◌}
 use Rattle.cut_segment.proofs.slide.Given as goal
 
 abbrev pub invariant-loop-i : goal.invariant-loop-i

@@ -1,8 +1,6 @@
-use Rattle.cut_segment.proofs.Halves.{Halving, halving_all, halving_up, halving_down, halving_done, starts_lead, key_by, key-past}
+use Rattle.cut_segment.proofs.Halves.{halving_all, halving_up, halving_down, halving_done, starts_lead, key_by, key-past}
 use Rattle.item.proofs.Laws.{items-length}
-use Prim.Native.Nat.{◌-◌}
 use Rattle.item.specs.Items.{items}
-use Rattle.cut_segment.specs.Segments.{starts_by}
 use native.Mathlib.Omega.{arith}
 use Rattle.cut_segment.proofs.started_by.Goals as goal
 

@@ -1,9 +1,7 @@
-use Rattle.cut_segment.proofs.Halves.{Halving, halving_all, halving_up, halving_down, halving_done, starts_lead, key_by, key-past}
-use Rattle.item.proofs.Laws.{items-length}
+use Rattle.cut_segment.proofs.Halves.{Halving}
 use Prim.Native.Nat.{◌-◌}
 use Rattle.item.specs.Items.{items}
 use Rattle.cut_segment.specs.Segments.{starts_by}
-use native.Mathlib.Omega.{arith}
 use Rattle.cut_segment.proofs.started_by.Given as goal
 
 -- By halves: how many items lead lies between low and high.

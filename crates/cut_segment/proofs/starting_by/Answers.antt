@@ -1,10 +1,7 @@
 use mathlib.Core.Path.{◌≡◌, ◌∙◌, sym, refl}
 use lib.Seq.{length-take-le}
 use Rattle.cut_segment.proofs.Cutting.{leading-turn, leading_stop, leading-done, starts-told, later_told}
-use Prim.Native.Nat.{◌+◌, ◌-◌, ◌≤◌}
 use Rattle.item.specs.Items.{items}
-use Rattle.cut_segment.specs.Segments.{leading, starts_by}
-use lib.ListN.{take, drop}
 use native.Mathlib.Omega.{arith}
 use Rattle.cut_segment.proofs.starting_by.Goals as goal
 

@@ -1,11 +1,8 @@
-use mathlib.Core.Path.{◌≡◌, ◌∙◌, sym, refl}
-use lib.Seq.{length-take-le}
-use Rattle.cut_segment.proofs.Cutting.{leading-turn, leading_stop, leading-done, starts-told, later_told}
+use mathlib.Core.Path.{◌≡◌}
 use Prim.Native.Nat.{◌+◌, ◌-◌, ◌≤◌}
 use Rattle.item.specs.Items.{items}
 use Rattle.cut_segment.specs.Segments.{leading, starts_by}
 use lib.ListN.{take, drop}
-use native.Mathlib.Omega.{arith}
 use Rattle.cut_segment.proofs.starting_by.Given as goal
 
 abbrev pub invariant-loop-i : goal.invariant-loop-i

@@ -1,4 +1,3 @@
-use borrow.Author.Rules.{rules}
 use native.Mathlib.Omega.{arith}
 use Rattle.cut_segment.proofs.Touching.{touching_none, touching-some}
 use Rattle.cut_segment.proofs.touched.Goals as goal

@@ -1,6 +1,5 @@
 use mathlib.Core.Path.{◌∙◌}
 use Rattle.records.proofs.Tests.{cond_yes, cond_no}
-use borrow.Author.Rules.{rules}
 use Rattle.cut_splits.proofs.counted.Goals as goal
 
 pub returns-then-is_hole : goal.returns-then-is_hole

@@ -1,12 +1,8 @@
 use lib.ListN.{length}
-use Prim.Native.Nat.{◌/◌, ◌+◌, ◌-◌, ◌≤◌}
-use Rattle.item.specs.Items.{fields, decode, items}
+use Prim.Native.Nat.{◌/◌}
+use Rattle.item.specs.Items.{fields}
 use Rattle.cut_splits.proofs.Bytes.{bytes-turn, bytes-done}
-use Rattle.cut_def.specs.Pieces.{counted_bytes}
 use Rattle.item.proofs.Laws.{item-decode, rest-items}
-use Rattle.records.proofs.Loops.{rest}
-use borrow.Author.Rules.{rules}
-use mathlib.Core.Path.{◌≡◌}
 use native.Mathlib.Omega.{arith}
 use Rattle.cut_splits.proofs.counted_bytes.Goals as goal
 

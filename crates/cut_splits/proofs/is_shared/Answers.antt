@@ -3,7 +3,6 @@ use Prim.Native.Nat.{ℕ}
 use mathlib.Core.Bool.{Bool, ◌&&◌, ◌||◌, not}
 use mathlib.Core.Path.{◌∙◌, ap, ap₂}
 use Rattle.records.proofs.Lists.{any_of_two}
-use borrow.Author.Rules.{rules}
 use Rattle.cut_splits.proofs.is_shared.Goals as goal
 
 pub returns : goal.returns

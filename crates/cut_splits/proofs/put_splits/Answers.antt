@@ -2,15 +2,12 @@ use Rattle.cut_splits.specs.Splits.{shared, elsewhere, split_share}
 use Rattle.item.specs.Items.{fields, decode, items}
 use Rattle.plan_lines.proofs.Loops.{flat_turn, flat_done, going_length}
 use Rattle.records.proofs.Picks.{kept_flat, only-few}
-use Rattle.plan_lines.proofs.Laws.{Going, going_first}
+use Rattle.plan_lines.proofs.Laws.{going_first}
 use Rattle.plan_def.specs.Outputs.{ref_numbers}
 use Rattle.cut_def.specs.Refs.{ref_of}
 use Rattle.cut_def.specs.Cuts.{split}
 use Rattle.item.proofs.Laws.{item-decode, rest-items, items-length}
-use Rattle.records.proofs.Loops.{rest}
-use Rattle.records.specs.Select.{keep}
-use Prim.Native.Nat.{◌+◌, ◌-◌, ◌≤◌}
-use mathlib.Core.List.{[], ◌∷◌, map, flat_map}
+use mathlib.Core.List.{[], ◌∷◌}
 use mathlib.Core.Path.{refl}
 use native.Mathlib.Omega.{arith}
 use Rattle.cut_splits.proofs.put_splits.Goals as goal

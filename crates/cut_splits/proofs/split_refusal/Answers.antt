@@ -2,7 +2,6 @@ use Rattle.table.specs.Rows.{rows, one_more_reference}
 use Prim.Native.Nat.{ℕ}
 use mathlib.Core.Path.{◌∙◌, ap}
 use Rattle.records.proofs.Tests.{cond_yes, cond_no}
-use borrow.Author.Rules.{rules}
 use Rattle.cut_splits.proofs.split_refusal.Goals as goal
 
 pub returns-then-is_split : goal.returns-then-is_split

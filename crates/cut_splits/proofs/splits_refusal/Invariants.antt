@@ -1,18 +1,14 @@
 use mathlib.Core.List.{map}
-use Rattle.records.proofs.Picks.{stage-kept}
 use Rattle.cut_splits.specs.Splits.{split_refusal}
 use Rattle.cut_def.specs.Refs.{Ref, ref_of}
 use Rattle.cut_def.specs.Cuts.{split}
 use Rattle.table.specs.Rows.{rows, one_more_reference}
-use Rattle.item.proofs.Laws.{item-decode, rest-items}
 use Rattle.item.specs.Items.{decode, items}
-use Rattle.records.proofs.Loops.{rest, stage-turn, stage_stop, stage-done}
+use Rattle.records.proofs.Loops.{rest}
 use Rattle.records.specs.Stages.{stage}
 use Rattle.records.specs.Select.{keep}
-use borrow.Author.Rules.{rules}
 use Prim.Native.Nat.{◌-◌, ◌≤◌}
-use mathlib.Core.Path.{◌≡◌, ◌∙◌, sym}
-use native.Mathlib.Omega.{arith}
+use mathlib.Core.Path.{◌≡◌}
 use Rattle.cut_splits.proofs.splits_refusal.Given as goal
 
 abbrev pub invariant-loop-i : goal.invariant-loop-i

@@ -1,6 +1,5 @@
 use native.Mathlib.Omega.{arith}
 use Rattle.cut_touched.proofs.Parts.{part, part_room, part-dropped, part-sized}
-use borrow.Author.Rules.{rules}
 use Rattle.cut_touched.proofs.drops_refusal.Goals as goal
 
 pub overflow_mul-a : goal.overflow_mul-a

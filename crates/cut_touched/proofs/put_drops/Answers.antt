@@ -1,6 +1,5 @@
 use native.Mathlib.Omega.{arith}
 use Rattle.cut_touched.proofs.Parts.{part_room, part-items, part-most, part-dropped, part-sized}
-use borrow.Author.Rules.{rules}
 use Rattle.cut_touched.proofs.put_drops.Goals as goal
 
 pub overflow_mul-a : goal.overflow_mul-a

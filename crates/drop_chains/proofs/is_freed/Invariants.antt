@@ -1,13 +1,10 @@
-use Rattle.drop_chains.proofs.Walks.{Walk, walk_start, walk_stop, walk_moves, walk_bytes, walk_nexts, walk_goes, walk-tally, Tally, tally_first, tally_freed}
+use Rattle.drop_chains.proofs.Walks.{Walk, Tally}
 use Rattle.drop_chains.specs.Chains.{Chain}
 use Rattle.ref_def.specs.Drops.{InLeaf, in_leaves}
 use Rattle.item.specs.Items.{items}
 use lib.ListN.{length, drop}
 use Prim.Native.Nat.{◌-◌, ◌≤◌}
 use mathlib.Core.Bool.{Bool}
-use mathlib.Core.Path.{◌∙◌, refl}
-use native.Mathlib.Omega.{arith}
-use borrow.Author.Rules.{rules}
 use Rattle.drop_chains.proofs.is_freed.Given as goal
 
 abbrev pub invariant-loop-h : goal.invariant-loop-h

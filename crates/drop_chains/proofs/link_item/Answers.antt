@@ -9,7 +9,6 @@ use Prim.Native.Nat.{◌*◌, ◌<◌}
 use lib.ListN.{length, get_or, drop}
 use mathlib.Core.Path.{refl, ap, ◌∙◌, sym}
 use native.Mathlib.Omega.{arith}
-use borrow.Author.Rules.{rules}
 use Rattle.drop_chains.proofs.link_item.Goals as goal
 
 pub returns-then-not-dropped : goal.returns-then-not-dropped

@@ -1,19 +1,14 @@
-use Rattle.drop_chains.proofs.Walks.{Walk, walk_start, walk_stop, walk_moves, walk_bytes, walk_items, walk_nexts, walk_goes, walk_takes, chain_room, chain_turn, chain_done}
+use Rattle.drop_chains.proofs.Walks.{Walk}
 use Rattle.drop_chains.specs.Chains.{Chain, line_in}
 use Rattle.records.specs.Select.{keep}
 use Rattle.ref_def.specs.Drops.{InLeaf, in_leaves}
-use Rattle.item.specs.Items.{items, fields}
-use Rattle.item.proofs.Laws.{item-decode}
-use Rattle.plan_lines.proofs.Laws.{Going, going_first}
-use Rattle.plan_lines.proofs.Loops.{going_length}
+use Rattle.item.specs.Items.{items}
+use Rattle.plan_lines.proofs.Laws.{Going}
 use Rattle.plan_def.specs.Outputs.{ref_numbers}
-use lib.ListN.{length, drop, length-map}
+use lib.ListN.{length, drop}
 use Prim.Native.Nat.{◌-◌}
 use mathlib.Core.Bool.{Bool}
 use mathlib.Core.List.{map}
-use mathlib.Core.Path.{refl}
-use native.Mathlib.Omega.{arith}
-use borrow.Author.Rules.{rules}
 use Rattle.drop_chains.proofs.put_all.Given as goal
 
 abbrev pub invariant-loop-h : goal.invariant-loop-h

@@ -9,7 +9,6 @@ use Rattle.item.specs.Items.{items}
 use lib.ListN.{length, length-map}
 use native.Mathlib.Omega.{arith}
 use mathlib.Core.Path.{ap, ◌∙◌, sym}
-use borrow.Author.Rules.{rules}
 use Rattle.drop_chains.proofs.put_chain.Goals as goal
 
 pub returns-then-head-eq0 : goal.returns-then-head-eq0

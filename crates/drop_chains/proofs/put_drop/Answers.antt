@@ -1,10 +1,8 @@
 use Rattle.plan_lines.proofs.Loops.{laid_same}
 use Rattle.plan_def.specs.Outputs.{ref_numbers}
-use Rattle.cut_def.specs.Refs.{Ref}
 use mathlib.Core.List.{[], ◌∷◌}
 use mathlib.Core.Path.{ap₂, sym}
 use Prim.Native.Nat.{ℕ}
-use borrow.Author.Rules.{rules}
 use Rattle.drop_chains.proofs.put_drop.Goals as goal
 
 pub returns : goal.returns

@@ -1,21 +1,17 @@
-use Rattle.drop_chains.proofs.Links.{row_chain, rows_chained, chain_of, span-first, span-done}
-use Rattle.plan_lines.proofs.Loops.{laid_same, flat_room, flat_turn, going_length}
+use Rattle.drop_chains.proofs.Links.{row_chain}
 use Rattle.plan_lines.proofs.Laws.{Going}
 use Rattle.drop_chains.specs.declared.RowRange.{RowRange}
-use Rattle.drop_chains.specs.Links.{drop_at, Linked}
+use Rattle.drop_chains.specs.Links.{Linked}
 use Rattle.plan_def.specs.Outputs.{ref_numbers}
-use Rattle.table.proofs.Laws.{rows-length}
 use Rattle.table.specs.Rows.{row_of, rows}
 use Rattle.item.specs.Items.{Fields, items}
 use Rattle.ref_def.specs.Drops.{in_leaves}
 use Rattle.records.proofs.Loops.{rest}
 use lib.ListN.{length}
-use Prim.Native.Nat.{◌-◌, ◌/◌, ◌<◌}
+use Prim.Native.Nat.{◌-◌, ◌/◌}
 use mathlib.Core.Bool.{Bool}
 use mathlib.Core.List.{flat_map}
-use mathlib.Core.Path.{◌≡◌, refl, ap}
-use native.Mathlib.Omega.{arith}
-use borrow.Author.Rules.{rules}
+use mathlib.Core.Path.{◌≡◌}
 use Rattle.drop_chains.proofs.put_rows.Given as goal
 
 abbrev pub invariant-loop-k : goal.invariant-loop-k

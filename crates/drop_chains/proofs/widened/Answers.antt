@@ -1,7 +1,5 @@
-use borrow.Author.Rules.{rules}
 use mathlib.Core.Path.{ap₂}
 use Prim.Native.Nat.{ℕ}
-use Rattle.drop_chains.specs.declared.RowRange.{RowRange}
 use Rattle.drop_chains.proofs.widened.Goals as goal
 
 pub returns : goal.returns

@@ -1,7 +1,6 @@
 use Rattle.drop_lines.proofs.Refusals.{drop-missing, drop_found}
 use Rattle.item.specs.Items.{fields}
 use mathlib.Core.Path.{◌∙◌, sym}
-use borrow.Author.Rules.{rules}
 use Rattle.drop_lines.proofs.drop_refusal.Goals as goal
 
 pub returns-in_default : goal.returns-in_default

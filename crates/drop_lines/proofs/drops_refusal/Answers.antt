@@ -1,13 +1,7 @@
 use Rattle.drop_lines.proofs.Refusals.{due-turn, due-done}
-use Rattle.drop_lines.specs.Raw.{due, items_due}
-use Rattle.ref_def.specs.Drops.{earlier}
-use Rattle.table.specs.Rows.{rows}
+use Rattle.drop_lines.specs.Raw.{due}
 use Rattle.item.proofs.Laws.{item-decode, rest-items}
-use Rattle.item.specs.Items.{decode, items}
-use Rattle.records.proofs.Loops.{rest}
-use borrow.Author.Rules.{rules}
-use Prim.Native.Nat.{◌-◌, ◌≤◌}
-use mathlib.Core.Path.{◌≡◌, ◌∙◌}
+use mathlib.Core.Path.{◌∙◌}
 use native.Mathlib.Omega.{arith}
 use Rattle.drop_lines.proofs.drops_refusal.Goals as goal
 

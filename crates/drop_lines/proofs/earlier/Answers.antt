@@ -1,5 +1,4 @@
 use Rattle.drop_lines.proofs.Refusals.{earlier-first, earlier-next}
-use borrow.Author.Rules.{rules}
 use Rattle.drop_lines.proofs.earlier.Goals as goal
 
 pub returns-then-a-eq0 : goal.returns-then-a-eq0

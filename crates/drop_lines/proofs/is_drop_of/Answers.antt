@@ -1,7 +1,6 @@
 use Rattle.drop_lines.proofs.Rows.{other-extent, own_extent}
 use Rattle.item.specs.Items.{fields}
 use mathlib.Core.Path.{◌∙◌}
-use borrow.Author.Rules.{rules}
 use Rattle.drop_lines.proofs.is_drop_of.Goals as goal
 
 pub returns-then-extent_start-start : goal.returns-then-extent_start-start

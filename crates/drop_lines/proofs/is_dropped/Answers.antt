@@ -1,6 +1,5 @@
 use mathlib.Core.Bool.{Bool, ◌&&◌, not}
 use mathlib.Core.Path.{◌∙◌, ap₂}
-use borrow.Author.Rules.{rules}
 use Rattle.drop_lines.proofs.is_dropped.Goals as goal
 
 pub returns : goal.returns

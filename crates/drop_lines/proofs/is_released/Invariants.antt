@@ -1,13 +1,9 @@
-use Rattle.ref_def.proofs.Leaves.{leaves_rest, leaves_all}
-use Rattle.drop_chains.proofs.Walks.{Tally, tally_first}
-use Rattle.drop_lines.proofs.Tallies.{tally_turn, tally-released, one-most, of_extent}
+use Rattle.ref_def.proofs.Leaves.{leaves_rest}
+use Rattle.drop_chains.proofs.Walks.{Tally}
+use Rattle.drop_lines.proofs.Tallies.{of_extent}
 use Rattle.ref_def.specs.Drops.{in_leaves}
-use Rattle.item.proofs.Laws.{item-decode, items-length}
-use Rattle.item.specs.Items.{items, fields}
-use borrow.Author.Rules.{rules}
+use Rattle.item.specs.Items.{items}
 use Prim.Native.Nat.{◌-◌, ◌≤◌}
-use mathlib.Core.Path.{◌∙◌}
-use native.Mathlib.Omega.{arith}
 use Rattle.drop_lines.proofs.is_released.Given as goal
 
 abbrev pub invariant-loop-i : goal.invariant-loop-i

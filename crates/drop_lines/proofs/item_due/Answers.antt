@@ -1,7 +1,6 @@
 use Rattle.table.specs.Rows.{rows}
 use Rattle.drop_lines.proofs.Refusals.{due-some, due-none}
 use Rattle.item.specs.Items.{fields}
-use borrow.Author.Rules.{rules}
 use Rattle.drop_lines.proofs.item_due.Goals as goal
 
 pub returns-then-is_dropped : goal.returns-then-is_dropped

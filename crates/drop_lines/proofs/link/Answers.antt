@@ -1,14 +1,9 @@
 use Rattle.drop_chains.proofs.Links.{linked_first, linked_same}
-use Rattle.drop_chains.specs.Links.{Linked}
 use Rattle.drop_lines.specs.Dropped.{taken}
-use Rattle.ref_def.specs.Drops.{in_leaves}
 use Rattle.ref_def.proofs.Drops.{leaves-length}
-use Rattle.item.specs.Items.{Fields, items}
+use Rattle.item.specs.Items.{items}
 use Rattle.item.proofs.Laws.{item-decode, items-length}
-use Rattle.table.specs.Rows.{rows}
-use lib.ListN.{length}
-use Prim.Native.Nat.{◌-◌, ◌/◌, ◌≤◌}
-use mathlib.Core.Path.{◌≡◌, refl, ap, ◌∙◌}
+use mathlib.Core.Path.{refl, ap, ◌∙◌}
 use native.Mathlib.Omega.{arith}
 use borrow.Author.Rules.{rules}
 use Rattle.drop_lines.proofs.link.Goals as goal
@@ -21,10 +16,10 @@ item_at-requires c = omega (arith, c.loop-i.invariant.0, c.loop-i-test.true)
 
 pub link_item-span-requires : goal.link_item-span-requires
 link_item-span-requires c = record {
-        table_value = c.requires.table_value;
-        shared_len = (c.requires.shared_len, omega (arith, c.loop-i.invariant.0, c.loop-i-test.true));
-        linked = (taken c.args.c, linked_same _ _ _ _ _ _ _ _ (omega (arith, c.loop-i-test.true)) c.loop-i.invariant.3);
-    }
+  table_value = c.requires.table_value;
+  shared_len = (c.requires.shared_len, omega (arith, c.loop-i.invariant.0, c.loop-i-test.true));
+  linked = (taken c.args.c, linked_same _ _ _ _ _ _ _ _ (omega (arith, c.loop-i-test.true)) c.loop-i.invariant.3);
+}
 
 pub loop-i-smaller : goal.loop-i-smaller
 loop-i-smaller c = omega (arith, c.loop-i-test.true)

@@ -1,16 +1,11 @@
-use Rattle.drop_chains.proofs.Links.{linked_first, linked_same}
 use Rattle.drop_chains.specs.Links.{Linked}
 use Rattle.drop_lines.specs.Dropped.{taken}
 use Rattle.ref_def.specs.Drops.{in_leaves}
-use Rattle.ref_def.proofs.Drops.{leaves-length}
-use Rattle.item.specs.Items.{Fields, items}
-use Rattle.item.proofs.Laws.{item-decode, items-length}
+use Rattle.item.specs.Items.{items}
 use Rattle.table.specs.Rows.{rows}
 use lib.ListN.{length}
-use Prim.Native.Nat.{◌-◌, ◌/◌, ◌≤◌}
-use mathlib.Core.Path.{◌≡◌, refl, ap, ◌∙◌}
-use native.Mathlib.Omega.{arith}
-use borrow.Author.Rules.{rules}
+use Prim.Native.Nat.{◌/◌, ◌≤◌}
+use mathlib.Core.Path.{◌≡◌}
 use Rattle.drop_lines.proofs.link.Given as goal
 
 abbrev pub invariant-loop-i : goal.invariant-loop-i

@@ -6,7 +6,6 @@ use Rattle.item.specs.Items.{fields}
 use lib.ListN.{length}
 use native.Mathlib.Omega.{arith}
 use mathlib.Core.Path.{refl, ap}
-use borrow.Author.Rules.{rules}
 use Rattle.drop_lines.proofs.put_line.Goals as goal
 
 pub put_ref-requires : goal.put_ref-requires

@@ -1,12 +1,8 @@
 use Rattle.plan_lines.proofs.Loops.{flat_first, flat_room, flat_turn, flat_done, going_length}
 use Rattle.drop_lines.specs.Raw.{line_of}
-use Rattle.plan_lines.proofs.Laws.{Going}
 use Rattle.plan_def.specs.Outputs.{ref_numbers}
 use Rattle.item.proofs.Laws.{item-decode, rest-items}
-use Rattle.item.specs.Items.{items, decode, fields}
-use Rattle.records.proofs.Loops.{rest}
-use Prim.Native.Nat.{◌-◌, ◌≤◌}
-use mathlib.Core.List.{flat_map}
+use Rattle.item.specs.Items.{decode, fields}
 use mathlib.Core.Path.{refl}
 use native.Mathlib.Omega.{arith}
 use Rattle.drop_lines.proofs.put_lines.Goals as goal

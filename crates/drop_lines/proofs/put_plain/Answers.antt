@@ -2,14 +2,10 @@ use Rattle.drop_lines.proofs.Rows.{lines_rows, kind-most}
 use Rattle.plan_lines.proofs.Loops.{laid_same, flat_first, flat_room, flat_turn, flat_done, going_length}
 use Rattle.drop_lines.specs.Raw.{row_lines}
 use Rattle.drop_lines.specs.Dropped.{drops_in}
-use Rattle.plan_lines.proofs.Laws.{Going}
 use Rattle.plan_def.specs.Outputs.{ref_numbers}
 use Rattle.table.proofs.Laws.{rows-rest}
 use Rattle.table.specs.Rows.{row_of, rows}
 use Rattle.item.specs.Items.{items}
-use Rattle.records.proofs.Loops.{rest}
-use Prim.Native.Nat.{◌-◌, ◌≤◌}
-use mathlib.Core.List.{flat_map}
 use mathlib.Core.Path.{refl}
 use native.Mathlib.Omega.{arith}
 use Rattle.drop_lines.proofs.put_plain.Goals as goal
@@ -23,8 +19,8 @@ put_row-at-requires c = let a = c.args in
     let g = row_lines a.release (drops_in a.c (items a.list.now) a.shared.now) in
     let most = kind-most a.c a.release (rows a.table.now) (items a.list.now) a.shared.now c.requires.table_value c.requires.shared_len in
     record {
-        shared_len = c.requires.shared_len;
-        row_bound = omega (arith, c.requires.list_bound, most, flat_room ref_numbers 2 g row_of 5 _ _ _ _ _ _ _ _ _ c.loop-i-test.true c.row_at-row.ensures c.loop-i.invariant.1);
+      shared_len = c.requires.shared_len;
+      row_bound = omega (arith, c.requires.list_bound, most, flat_room ref_numbers 2 g row_of 5 _ _ _ _ _ _ _ _ _ c.loop-i-test.true c.row_at-row.ensures c.loop-i.invariant.1);
     }
 
 pub loop-i-preserved : goal.loop-i-preserved

@@ -1,17 +1,12 @@
-use Rattle.drop_lines.proofs.Rows.{lines_rows, kind-most}
-use Rattle.plan_lines.proofs.Loops.{laid_same, flat_first, flat_room, flat_turn, flat_done, going_length}
 use Rattle.drop_lines.specs.Raw.{row_lines}
 use Rattle.drop_lines.specs.Dropped.{drops_in}
 use Rattle.plan_lines.proofs.Laws.{Going}
 use Rattle.plan_def.specs.Outputs.{ref_numbers}
-use Rattle.table.proofs.Laws.{rows-rest}
 use Rattle.table.specs.Rows.{row_of, rows}
 use Rattle.item.specs.Items.{items}
 use Rattle.records.proofs.Loops.{rest}
 use Prim.Native.Nat.{◌-◌, ◌≤◌}
 use mathlib.Core.List.{flat_map}
-use mathlib.Core.Path.{refl}
-use native.Mathlib.Omega.{arith}
 use Rattle.drop_lines.proofs.put_plain.Given as goal
 
 abbrev pub invariant-loop-i : goal.invariant-loop-i

@@ -6,7 +6,6 @@ use Rattle.item.specs.Items.{items}
 use lib.ListN.{length}
 use native.Mathlib.Omega.{arith}
 use mathlib.Core.Path.{refl, ap}
-use borrow.Author.Rules.{rules}
 use Rattle.drop_lines.proofs.put_row.Goals as goal
 
 pub put_lines-requires : goal.put_lines-requires

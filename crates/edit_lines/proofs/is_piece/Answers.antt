@@ -2,7 +2,6 @@ use Rattle.edit_lines.proofs.News.{piece_none, piece_last, piece_both}
 use Rattle.item.proofs.Laws.{item-decode}
 use Rattle.item.specs.Items.{fields}
 use native.Mathlib.Omega.{arith}
-use borrow.Author.Rules.{rules}
 use Rattle.edit_lines.proofs.is_piece.Goals as goal
 
 pub returns-then-k-pieces : goal.returns-then-k-pieces

@@ -1,6 +1,5 @@
 use native.Mathlib.Omega.{arith}
 use Rattle.edit_lines.proofs.News.{piece_some, next_piece, next-rest}
-use borrow.Author.Rules.{rules}
 use Rattle.edit_lines.proofs.next_new.Goals as goal
 
 pub piece_at-item-requires : goal.piece_at-item-requires

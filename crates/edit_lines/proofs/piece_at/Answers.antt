@@ -2,7 +2,6 @@ use Prim.Native.Nat.{◌*◌}
 use mathlib.Core.Path.{◌∙◌, ap}
 use Rattle.edit_lines.proofs.News.{piece_read}
 use Rattle.item.specs.Items.{Fields, of_kind}
-use borrow.Author.Rules.{rules}
 use Rattle.edit_lines.proofs.piece_at.Goals as goal
 
 pub returns : goal.returns

@@ -1,19 +1,9 @@
 use Rattle.edit_lines.proofs.Steps.{edits-turn, edits-end}
-use Rattle.edit_lines.specs.Merge.{news, edits_from}
-use Rattle.edit_lines.specs.Pieced.{piece_items}
-use Rattle.plan_lines.proofs.Laws.{Going, going_first}
+use Rattle.edit_lines.specs.Merge.{news}
+use Rattle.plan_lines.proofs.Laws.{going_first}
 use Rattle.plan_def.specs.Outputs.{edit_bytes}
-use Rattle.cut_def.specs.Edits.{edits}
-use Rattle.cut_def.specs.Pieces.{built, items_of, insert_all}
 use Rattle.item.proofs.Laws.{items-length}
-use Rattle.item.specs.Items.{items}
-use Rattle.lists.specs.Lists.{rises}
-use Rattle.records.specs.Stages.{pairs}
-use lib.ListN.{length}
-use Prim.Native.Nat.{◌+◌, ◌-◌, ◌/◌, ◌≤◌}
-use mathlib.Core.Bool.{true}
-use mathlib.Core.List.{map}
-use mathlib.Core.Path.{◌≡◌, refl}
+use mathlib.Core.Path.{refl}
 use native.Mathlib.Omega.{arith}
 use Rattle.edit_lines.proofs.put_edits.Goals as goal
 

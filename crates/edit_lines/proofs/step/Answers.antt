@@ -1,5 +1,4 @@
 use Rattle.edit_lines.proofs.Steps.{old-left, stepped}
-use borrow.Author.Rules.{rules}
 use Rattle.edit_lines.proofs.step.Goals as goal
 
 pub put_next-m-requires : goal.put_next-m-requires

@@ -2,7 +2,6 @@ use Rattle.edit_merge.proofs.Steps.{gone-none, gone-head}
 use Rattle.item.proofs.Laws.{item-decode}
 use Rattle.item.specs.Items.{fields}
 use native.Mathlib.Omega.{arith}
-use borrow.Author.Rules.{rules}
 use Rattle.edit_merge.proofs.is_gone.Goals as goal
 
 pub returns-then-i-was : goal.returns-then-i-was

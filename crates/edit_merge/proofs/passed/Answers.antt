@@ -1,7 +1,6 @@
 use Rattle.edit_merge.proofs.Steps.{behind-end, behind-same, behind-other}
 use Rattle.item.proofs.Laws.{item-decode}
 use native.Mathlib.Omega.{arith}
-use borrow.Author.Rules.{rules}
 use Rattle.edit_merge.proofs.passed.Goals as goal
 
 pub returns-then-i-was : goal.returns-then-i-was

@@ -1,7 +1,6 @@
 use Rattle.edit_merge.proofs.Steps.{delete-bytes}
 use Rattle.plan_lines.proofs.Loops.{laid_by}
 use Rattle.plan_def.specs.Outputs.{edit_bytes}
-use borrow.Author.Rules.{rules}
 use Rattle.edit_merge.proofs.put_delete.Goals as goal
 
 pub returns : goal.returns

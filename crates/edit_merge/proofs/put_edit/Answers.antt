@@ -2,7 +2,6 @@ use Rattle.plan_lines.proofs.Laws.{laid_one, laid_full}
 use native.Mathlib.Omega.{arith}
 use Prim.Native.Nat.{ℕ}
 use mathlib.Core.List.{List}
-use borrow.Author.Rules.{rules}
 use Rattle.edit_merge.proofs.put_edit.Goals as goal
 
 pub returns-then-n-out : goal.returns-then-n-out

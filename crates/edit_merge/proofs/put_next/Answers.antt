@@ -2,7 +2,6 @@ use native.Mathlib.Omega.{arith}
 use Rattle.item.proofs.Laws.{item-decode}
 use Rattle.item.specs.Items.{fields}
 use Rattle.edit_merge.proofs.Steps.{gone-some, merging_gone, merging-put}
-use borrow.Author.Rules.{rules}
 use Rattle.edit_merge.proofs.put_next.Goals as goal
 
 pub item_at-f-requires : goal.item_at-f-requires

@@ -2,7 +2,6 @@ use native.Mathlib.Omega.{arith}
 use Rattle.endian.proofs.Puts.{put_cons}
 use lib.ListN.{length-set}
 use mathlib.Core.Path.{◌∙◌, sym}
-use borrow.Author.Rules.{rules}
 use Rattle.edit_merge.proofs.put_tagged.Goals as goal
 
 pub put_item-requires : goal.put_item-requires

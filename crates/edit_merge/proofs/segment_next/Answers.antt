@@ -1,7 +1,6 @@
 use native.Mathlib.Omega.{arith}
 use Rattle.item.proofs.Laws.{item-decode}
 use Rattle.edit_merge.proofs.Steps.{segment_none, segment_some}
-use borrow.Author.Rules.{rules}
 use Rattle.edit_merge.proofs.segment_next.Goals as goal
 
 pub returns-then-j-segment : goal.returns-then-j-segment

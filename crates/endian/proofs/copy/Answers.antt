@@ -1,8 +1,7 @@
-use mathlib.Core.Path.{◌≡◌, ◌∙◌, refl}
-use Prim.Native.Nat.{◌+◌, ◌-◌, ◌≤◌}
+use mathlib.Core.Path.{◌∙◌, refl}
+use Prim.Native.Nat.{◌+◌, ◌-◌}
 use native.Mathlib.Nat.{sub-zero, add-zero}
-use lib.ListN.{length, length-set, take, drop}
-use Rattle.endian.specs.Le.{put}
+use lib.ListN.{length-set, drop}
 use Rattle.endian.proofs.Puts.{copy_turn, take_none}
 use native.Mathlib.Omega.{arith}
 use Rattle.endian.proofs.copy.Goals as goal

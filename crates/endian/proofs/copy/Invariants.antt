@@ -1,10 +1,7 @@
-use mathlib.Core.Path.{◌≡◌, ◌∙◌, refl}
+use mathlib.Core.Path.{◌≡◌}
 use Prim.Native.Nat.{◌+◌, ◌-◌, ◌≤◌}
-use native.Mathlib.Nat.{sub-zero, add-zero}
-use lib.ListN.{length, length-set, take, drop}
+use lib.ListN.{length, take, drop}
 use Rattle.endian.specs.Le.{put}
-use Rattle.endian.proofs.Puts.{copy_turn, take_none}
-use native.Mathlib.Omega.{arith}
 use Rattle.endian.proofs.copy.Given as goal
 
 abbrev pub invariant-loop-i : goal.invariant-loop-i

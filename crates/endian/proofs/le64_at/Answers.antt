@@ -1,6 +1,5 @@
 use mathlib.Core.Path.{◌∙◌, sym}
 use Rattle.endian.proofs.Numbers.{num_8}
-use borrow.Author.Rules.{rules}
 use Rattle.endian.proofs.le64_at.Goals as goal
 
 pub returns : goal.returns

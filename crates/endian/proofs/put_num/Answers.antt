@@ -1,8 +1,6 @@
-use mathlib.Core.Path.{◌≡◌, ◌∙◌, refl}
-use Prim.Native.Nat.{◌+◌, ◌-◌, ◌≤◌}
+use mathlib.Core.Path.{◌∙◌, refl}
 use native.Mathlib.Nat.{sub-zero, add-zero}
-use lib.ListN.{length, length-set}
-use Rattle.endian.specs.Le.{put, enc}
+use lib.ListN.{length-set}
 use Rattle.endian.proofs.Puts.{enc-turn, enc-none}
 use native.Mathlib.Omega.{arith}
 use Rattle.endian.proofs.put_num.Goals as goal

@@ -1,10 +1,7 @@
-use mathlib.Core.Path.{◌≡◌, ◌∙◌, refl}
+use mathlib.Core.Path.{◌≡◌}
 use Prim.Native.Nat.{◌+◌, ◌-◌, ◌≤◌}
-use native.Mathlib.Nat.{sub-zero, add-zero}
-use lib.ListN.{length, length-set}
+use lib.ListN.{length}
 use Rattle.endian.specs.Le.{put, enc}
-use Rattle.endian.proofs.Puts.{enc-turn, enc-none}
-use native.Mathlib.Omega.{arith}
 use Rattle.endian.proofs.put_num.Given as goal
 
 abbrev pub invariant-loop-i : goal.invariant-loop-i

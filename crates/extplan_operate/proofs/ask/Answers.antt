@@ -1,5 +1,4 @@
 use Rattle.extplan_operate.proofs.Asked.{clone-asked}
-use borrow.Author.Rules.{rules}
 use Rattle.extplan_operate.proofs.ask.Goals as goal
 
 pub ask_range-requires : goal.ask_range-requires

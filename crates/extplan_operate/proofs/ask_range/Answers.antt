@@ -1,5 +1,4 @@
 use Rattle.extplan_operate.proofs.Asked.{fallocate-asked, punch-asked}
-use borrow.Author.Rules.{rules}
 use Rattle.extplan_operate.proofs.ask_range.Goals as goal
 
 pub returns-then-r-eq7 : goal.returns-then-r-eq7

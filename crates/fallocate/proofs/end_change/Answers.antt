@@ -1,5 +1,4 @@
 use native.Mathlib.Omega.{arith}
-use borrow.Author.Rules.{rules}
 use Rattle.punch.proofs.Sectors.{fitting}
 use Rattle.fallocate.proofs.Asking.{end_is}
 use Rattle.fallocate.proofs.end_change.Goals as goal

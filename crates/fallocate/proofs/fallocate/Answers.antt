@@ -1,7 +1,6 @@
 use Rattle.fallocate.proofs.Operating.{fits, asked_now, fallocate-refused, fallocate-changed}
 use Rattle.change_lay.proofs.Outputs.{met-refused}
 use native.Mathlib.Omega.{arith}
-use borrow.Author.Rules.{rules}
 use Rattle.fallocate.proofs.fallocate.Goals as goal
 
 pub returns-then-why-ne0 : goal.returns-then-why-ne0

@@ -1,7 +1,6 @@
 use mathlib.Core.Path.{◌∙◌, sym}
 use Rattle.fallocate.proofs.Refusing.{fit, refused-range, refused-item, refused_sum}
 use native.Mathlib.Omega.{arith}
-use borrow.Author.Rules.{rules}
 use Rattle.fallocate.proofs.fallocate_refusal.Goals as goal
 
 pub returns-then-broken-ne0 : goal.returns-then-broken-ne0

@@ -1,4 +1,3 @@
-use borrow.Author.Rules.{rules}
 use Rattle.punch.proofs.Sectors.{fitting}
 use Rattle.fallocate.proofs.Asking.{fill_is}
 use Rattle.fallocate.proofs.fill_of.Goals as goal

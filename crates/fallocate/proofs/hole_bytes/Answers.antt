@@ -1,6 +1,5 @@
 use mathlib.Core.Path.{◌∙◌}
 use mathlib.Core.Bool.{true}
-use borrow.Author.Rules.{rules}
 use Rattle.item.specs.Items.{items}
 use Rattle.cut_segment.proofs.Segments.{runs-bounded}
 use Rattle.fallocate.proofs.Refusing.{sum_swept, sum_limit}

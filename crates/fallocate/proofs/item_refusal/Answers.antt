@@ -1,6 +1,5 @@
 use Rattle.item.specs.Items.{fields}
 use Rattle.fallocate.proofs.Asking.{item-meets, item_aside}
-use borrow.Author.Rules.{rules}
 use Rattle.fallocate.proofs.item_refusal.Goals as goal
 
 pub returns-then-both : goal.returns-then-both

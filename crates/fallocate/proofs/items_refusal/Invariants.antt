@@ -1,15 +1,10 @@
-use mathlib.Core.Path.{◌≡◌, ◌∙◌}
+use mathlib.Core.Path.{◌≡◌}
 use Prim.Native.Nat.{◌-◌, ◌≤◌}
 use Rattle.records.specs.Stages.{stage}
-use Rattle.records.proofs.Loops.{rest, stage-turn, stage_stop, stage-done}
+use Rattle.records.proofs.Loops.{rest}
 use Rattle.item.specs.Items.{decode, items}
-use Rattle.item.proofs.Laws.{item-decode}
-use Rattle.punch.proofs.Sectors.{fitting}
 use Rattle.change_def.specs.Rounding.{round_down, round_up}
 use Rattle.fallocate_def.specs.Fallocate.{item_refusal}
-use Rattle.fallocate.proofs.Asking.{items-start}
-use native.Mathlib.Omega.{arith}
-use borrow.Author.Rules.{rules}
 use Rattle.fallocate.proofs.items_refusal.Given as goal
 
 abbrev pub invariant-loop-i : goal.invariant-loop-i

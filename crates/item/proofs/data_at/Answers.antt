@@ -1,4 +1,4 @@
-use Rattle.std.proofs.Common.{◌≤◌, length, take, drop, ◌∙◌, arith, length-drop, length-take, rules}
+use Rattle.std.proofs.Common.{◌≤◌, length, take, drop, ◌∙◌, arith, length-drop, length-take}
 use Rattle.endian.proofs.Puts.{put_whole}
 use Rattle.item.proofs.data_at.Goals as goal
 

@@ -1,5 +1,4 @@
 use Rattle.item.proofs.Runs.{raw_item}
-use Rattle.std.proofs.Common.{rules}
 use Rattle.item.proofs.item_at.Goals as goal
 
 pub returns : goal.returns

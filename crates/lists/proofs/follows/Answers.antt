@@ -1,7 +1,6 @@
 use mathlib.Core.Path.{◌∙◌, ap, ap₂}
 use mathlib.Core.Bool.{Bool, ◌&&◌, ◌||◌, not}
 use lib.Dec.{leb}
-use borrow.Author.Rules.{rules}
 use Rattle.lists.proofs.follows.Goals as goal
 
 pub returns : goal.returns

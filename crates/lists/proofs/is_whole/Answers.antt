@@ -2,7 +2,6 @@ use mathlib.Core.Path.{◌∙◌, ap, ap₂}
 use mathlib.Core.Bool.{Bool, ◌&&◌, ◌||◌, not}
 use Prim.Native.Nat.{ℕ, ◌%◌}
 use lib.Dec.{eqb}
-use borrow.Author.Rules.{rules}
 use Rattle.lists.proofs.is_whole.Goals as goal
 
 pub returns : goal.returns

@@ -1,6 +1,5 @@
 use mathlib.Core.Path.{◌∙◌, ap₂}
 use mathlib.Core.Bool.{Bool, ◌&&◌, ◌||◌, not}
-use borrow.Author.Rules.{rules}
 use Rattle.lists.proofs.item_sound.Goals as goal
 
 pub returns : goal.returns

@@ -1,12 +1,7 @@
-use mathlib.Core.Path.{◌≡◌, ◌∙◌, sym}
-use Prim.Native.Nat.{◌-◌, ◌≤◌}
-use borrow.Author.Rules.{rules}
-use Rattle.records.specs.Stages.{unless}
-use Rattle.records.specs.Raw.{sieve}
-use Rattle.records.proofs.Loops.{rest, sieve-turn, sieve_stop, sieve-done}
-use Rattle.item.specs.Items.{decode, items}
+use mathlib.Core.Path.{◌∙◌, sym}
+use Rattle.records.proofs.Loops.{sieve-turn, sieve_stop, sieve-done}
+use Rattle.item.specs.Items.{decode}
 use Rattle.item.proofs.Laws.{item-decode, rest-items}
-use Rattle.lists.specs.Lists.{list_kept}
 use Rattle.lists.specs.Raw.{turn, next}
 use Rattle.lists.proofs.Order.{pass_all}
 use native.Mathlib.Omega.{arith}

@@ -1,15 +1,11 @@
-use mathlib.Core.Path.{◌≡◌, ◌∙◌, sym}
+use mathlib.Core.Path.{◌≡◌}
 use Prim.Native.Nat.{◌-◌, ◌≤◌}
-use borrow.Author.Rules.{rules}
 use Rattle.records.specs.Stages.{unless}
 use Rattle.records.specs.Raw.{sieve}
-use Rattle.records.proofs.Loops.{rest, sieve-turn, sieve_stop, sieve-done}
+use Rattle.records.proofs.Loops.{rest}
 use Rattle.item.specs.Items.{decode, items}
-use Rattle.item.proofs.Laws.{item-decode, rest-items}
 use Rattle.lists.specs.Lists.{list_kept}
 use Rattle.lists.specs.Raw.{turn, next}
-use Rattle.lists.proofs.Order.{pass_all}
-use native.Mathlib.Omega.{arith}
 use Rattle.lists.proofs.list_refusal.Given as goal
 
 abbrev pub invariant-loop-i : goal.invariant-loop-i

@@ -5,7 +5,6 @@ use lib.ListN.{length}
 use Rattle.item.proofs.Laws.{items-length}
 use mathlib.Core.Bool.{Bool, ◌&&◌}
 use Rattle.records.specs.Stages.{unless}
-use borrow.Author.Rules.{rules}
 use Rattle.lists.proofs.list_size_refusal.Goals as goal
 
 pub returns : goal.returns

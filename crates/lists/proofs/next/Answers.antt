@@ -5,7 +5,6 @@ use Rattle.item.specs.Items.{fields, end}
 use Rattle.lists.specs.declared.Last.{Last}
 use Rattle.lists.proofs.Order.{turn-ends, next-ranged, next-other}
 use native.Mathlib.Omega.{arith}
-use borrow.Author.Rules.{rules}
 use Rattle.lists.proofs.next.Goals as goal
 
 pub overflow_add-result : goal.overflow_add-result

@@ -1,6 +1,5 @@
 use mathlib.Core.Path.{ap, sym}
 use Prim.Native.Nat.{ℕ, ◌%◌}
-use borrow.Author.Rules.{rules}
 use Rattle.lists.proofs.past_sector.Goals as goal
 
 pub returns-then-sector-eq4096 : goal.returns-then-sector-eq4096

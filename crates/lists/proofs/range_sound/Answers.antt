@@ -2,7 +2,6 @@ use mathlib.Core.Path.{◌∙◌, ap, ap₂}
 use mathlib.Core.Bool.{Bool, ◌&&◌}
 use Prim.Native.Nat.{ℕ, ◌+◌, ◌^◌}
 use lib.Dec.{leb, ltb}
-use borrow.Author.Rules.{rules}
 use Rattle.lists.proofs.range_sound.Goals as goal
 
 pub returns : goal.returns

@@ -5,7 +5,6 @@ use lib.Dec.{eqb, leb}
 use Rattle.records.specs.Stages.{whenever, unless, first}
 use Rattle.records.proofs.Tests.{first_last}
 use Rattle.records.specs.Stages.{first_of}
-use borrow.Author.Rules.{rules}
 use Rattle.lists.proofs.record_refusal.Goals as goal
 
 pub returns : goal.returns

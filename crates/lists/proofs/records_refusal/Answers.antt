@@ -1,6 +1,6 @@
-use Rattle.std.proofs.Common.{ap, arith}
+use Rattle.std.proofs.Common.{ap}
 use denote.Bor.{now}
-use Rattle.lists.proofs.Turns.{begins, ended, within, nearer, refused, passed}
+use Rattle.lists.proofs.Turns.{begins, ended, within, refused, passed}
 use Rattle.lists.proofs.records_refusal.Goals as goal
 
 pub loop-r-init : goal.loop-r-init

@@ -1,4 +1,4 @@
-use Rattle.std.proofs.Common.{◌≡◌, ◌*◌, ◌-◌, ◌/◌, ◌≤◌, length}
+use Rattle.std.proofs.Common.{◌-◌}
 use Rattle.lists.proofs.Turns.{Stands, count}
 use Rattle.lists.proofs.records_refusal.Given as goal
 

@@ -1,10 +1,9 @@
-use mathlib.Core.Path.{◌≡◌, ◌∙◌}
-use Prim.Native.Nat.{ℕ, ◌-◌, ◌≤◌}
-use borrow.Author.Rules.{rules}
-use Rattle.records.specs.Stages.{stage, unless, every}
-use Rattle.records.proofs.Loops.{rest, stage-turn, stage_stop, stage-done}
+use mathlib.Core.Path.{◌∙◌}
+use Prim.Native.Nat.{ℕ}
+use Rattle.records.specs.Stages.{unless}
+use Rattle.records.proofs.Loops.{stage-turn, stage_stop, stage-done}
 use Rattle.records.proofs.Tests.{stage-every}
-use Rattle.item.specs.Items.{Fields, decode, items}
+use Rattle.item.specs.Items.{Fields, decode}
 use Rattle.item.proofs.Laws.{item-decode, rest-items}
 use Rattle.lists.specs.Lists.{whole_sectors}
 use native.Mathlib.Omega.{arith}

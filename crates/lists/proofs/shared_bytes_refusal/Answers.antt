@@ -1,10 +1,8 @@
-use mathlib.Core.Path.{◌≡◌, ◌∙◌, refl}
-use Prim.Native.Nat.{ℕ, ◌-◌, ◌≤◌}
+use mathlib.Core.Path.{◌∙◌, refl}
+use Prim.Native.Nat.{ℕ}
 use lib.Dec.{leb}
-use lib.ListN.{length}
-use borrow.Author.Rules.{rules}
-use Rattle.records.specs.Stages.{stage, unless, every}
-use Rattle.records.proofs.Loops.{rest, head, rest-ones, head_at, stage-turn, stage_stop, stage-done}
+use Rattle.records.specs.Stages.{unless}
+use Rattle.records.proofs.Loops.{head, rest-ones, head_at, stage-turn, stage_stop, stage-done}
 use Rattle.records.proofs.Tests.{stage-every}
 use native.Mathlib.Omega.{arith}
 use Rattle.lists.proofs.shared_bytes_refusal.Goals as goal

@@ -7,7 +7,6 @@ use lib.ListN.{length}
 use native.Mathlib.Omega.{arith}
 use Rattle.records.specs.Stages.{first, every, unless}
 use Rattle.records.proofs.Tests.{first-unless}
-use borrow.Author.Rules.{rules}
 use Rattle.lists.proofs.shared_refusal.Goals as goal
 
 pub returns : goal.returns

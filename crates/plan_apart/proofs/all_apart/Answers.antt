@@ -1,5 +1,4 @@
 use mathlib.Core.Path.{◌∙◌, ap, sym}
-use borrow.Author.Rules.{rules}
 use Rattle.records.specs.Stages.{neighbours}
 use Rattle.plan_apart.specs.Spacing.{ends_by}
 use Rattle.plan_apart.proofs.Spacing.{spaced-apart, sorted_apart}

@@ -2,7 +2,6 @@ use mathlib.Core.Path.{sym}
 use Prim.Native.Nat.{◌*◌}
 use native.Mathlib.Omega.{arith}
 use lib.Seq.{length-take-le}
-use borrow.Author.Rules.{rules}
 use Rattle.plan_apart.proofs.are_apart.Goals as goal
 
 pub slice_bounds-all_apart-end-2 : goal.slice_bounds-all_apart-end-2

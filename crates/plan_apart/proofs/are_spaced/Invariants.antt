@@ -1,13 +1,10 @@
-use mathlib.Core.Path.{◌≡◌, ◌∙◌, refl}
+use mathlib.Core.Path.{◌≡◌}
 use Prim.Native.Nat.{◌-◌, ◌/◌, ◌≤◌}
-use native.Mathlib.Omega.{arith}
-use borrow.Author.Rules.{rules}
-use borrow.Author.Tests.{not-true, not-false}
 use lib.ListN.{length}
 use Rattle.records.specs.Stages.{neighbours}
 use Rattle.plan_def.specs.ReadBack.{refs_in}
 use Rattle.plan_apart.specs.Spacing.{ends_by}
-use Rattle.plan_apart.proofs.Turns.{spaced, spaced-turn, spaced_stop, spaced-done}
+use Rattle.plan_apart.proofs.Turns.{spaced}
 use Rattle.plan_apart.proofs.are_spaced.Given as goal
 
 abbrev pub invariant-loop-k : goal.invariant-loop-k

@@ -1,4 +1,3 @@
-use borrow.Author.Rules.{rules}
 use Rattle.plan_lines.proofs.Edits.{edit_read}
 use Rattle.plan_lines.proofs.edit_item.Goals as goal
 

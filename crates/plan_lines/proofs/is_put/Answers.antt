@@ -1,5 +1,4 @@
 use mathlib.Core.Path.{refl}
-use borrow.Author.Rules.{rules}
 use Rattle.plan_lines.proofs.Edits.{tag_read}
 use Rattle.plan_lines.proofs.is_put.Goals as goal
 

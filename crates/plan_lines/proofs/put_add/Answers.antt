@@ -1,7 +1,6 @@
 use Rattle.plan_lines.proofs.Laws.{laid_one, laid_full}
 use Rattle.plan_def.specs.Outputs.{add_numbers}
 use native.Mathlib.Omega.{arith}
-use borrow.Author.Rules.{rules}
 use Rattle.plan_lines.proofs.put_add.Goals as goal
 
 pub returns-then-n-out : goal.returns-then-n-out

@@ -2,7 +2,6 @@ use native.Mathlib.Omega.{arith}
 use Rattle.plan_lines.proofs.Laws.{put-more}
 use mathlib.Core.Path.{refl}
 use mathlib.Core.List.{[], ◌∷◌}
-use borrow.Author.Rules.{rules}
 use Rattle.plan_lines.proofs.put_four.Goals as goal
 
 pub returns : goal.returns

@@ -3,7 +3,6 @@ use lib.ListN.{length-set}
 use mathlib.Core.Path.{refl}
 use mathlib.Core.List.{[], ◌∷◌}
 use native.Mathlib.Omega.{arith}
-use borrow.Author.Rules.{rules}
 use Rattle.plan_lines.proofs.put_two.Goals as goal
 
 pub bounds-out-at-2 : goal.bounds-out-at-2

@@ -1,7 +1,5 @@
 use mathlib.Core.Path.{◌∙◌, sym}
-use Prim.Native.Nat.{◌-◌, ◌≤◌}
-use borrow.Author.Rules.{rules}
-use Rattle.plan_places.proofs.Clear.{Parted, parted_all, up, down, all_before, first-behind}
+use Rattle.plan_places.proofs.Clear.{parted_all, up, down, all_before, first-behind}
 use native.Mathlib.Omega.{arith}
 use Rattle.plan_places.proofs.place_clear.Goals as goal
 

@@ -1,8 +1,5 @@
-use mathlib.Core.Path.{◌∙◌, sym}
 use Prim.Native.Nat.{◌-◌, ◌≤◌}
-use borrow.Author.Rules.{rules}
-use Rattle.plan_places.proofs.Clear.{Parted, parted_all, up, down, all_before, first-behind}
-use native.Mathlib.Omega.{arith}
+use Rattle.plan_places.proofs.Clear.{Parted}
 use Rattle.plan_places.proofs.place_clear.Given as goal
 
 -- By halves: the rows below lo end at or before the start, those from hi on after it.

@@ -1,6 +1,5 @@
 use mathlib.Core.Path.{◌∙◌, ap, ap₂}
 use mathlib.Core.Bool.{Bool, ◌&&◌, not}
-use borrow.Author.Rules.{rules}
 use lib.Dec.{eqb}
 use Rattle.records.specs.Stages.{unless}
 use Rattle.plan_places.proofs.place_refusal.Goals as goal

@@ -1,6 +1,5 @@
 use mathlib.Core.Path.{◌≡◌, ◌∙◌, ap}
 use mathlib.Core.Bool.{Bool}
-use borrow.Author.Rules.{rules}
 use Rattle.records.specs.Stages.{unless}
 use Rattle.plan_places.specs.Fits.{room_in}
 use Rattle.plan_places.proofs.Laws.{room-told}

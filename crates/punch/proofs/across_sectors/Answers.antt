@@ -2,7 +2,6 @@ use Prim.Native.Nat.{◌<◌, ◌^◌}
 use Rattle.item.specs.Items.{items}
 use Rattle.punch.proofs.Sectors.{fitting, across_is}
 use native.Mathlib.Omega.{arith}
-use borrow.Author.Rules.{rules}
 use Rattle.punch.proofs.across_sectors.Goals as goal
 
 pub round_down-first-requires : goal.round_down-first-requires

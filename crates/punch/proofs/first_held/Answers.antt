@@ -1,10 +1,6 @@
-use Prim.Native.Nat.{◌-◌, ◌/◌}
-use borrow.Author.Rules.{rules}
-use lib.ListN.{length, drop}
-use borrow.Author.Tests.{not-true, not-false}
 use Rattle.item.specs.Items.{items}
 use Rattle.item.proofs.Laws.{items-length}
-use Rattle.punch.proofs.Starting.{Left, left-first, start-turn, start_stop, start_none}
+use Rattle.punch.proofs.Starting.{left-first, start-turn, start_stop, start_none}
 use native.Mathlib.Omega.{arith}
 use Rattle.punch.proofs.first_held.Goals as goal
 

@@ -1,11 +1,7 @@
 use Prim.Native.Nat.{◌-◌, ◌/◌}
-use borrow.Author.Rules.{rules}
 use lib.ListN.{length, drop}
-use borrow.Author.Tests.{not-true, not-false}
 use Rattle.item.specs.Items.{items}
-use Rattle.item.proofs.Laws.{items-length}
-use Rattle.punch.proofs.Starting.{Left, left-first, start-turn, start_stop, start_none}
-use native.Mathlib.Omega.{arith}
+use Rattle.punch.proofs.Starting.{Left}
 use Rattle.punch.proofs.first_held.Given as goal
 
 abbrev pub invariant-loop-i : goal.invariant-loop-i

@@ -1,7 +1,5 @@
-use borrow.Author.Tests.{not-true, not-false}
 use Rattle.item.specs.Items.{items}
 use Rattle.punch.proofs.Sectors.{found_held, asked-held, unasked_held}
-use borrow.Author.Rules.{rules}
 use Rattle.punch.proofs.held_if.Goals as goal
 
 pub returns-then-not-asked : goal.returns-then-not-asked

@@ -1,5 +1,4 @@
 use Rattle.punch.proofs.Sectors.{one-sector}
-use borrow.Author.Rules.{rules}
 use Rattle.punch.proofs.in_one_sector.Goals as goal
 
 pub returns : goal.returns

@@ -1,6 +1,5 @@
 use Rattle.item.specs.Items.{items}
 use Rattle.punch.proofs.Sectors.{plan-some, plan-none, plan-before}
-use borrow.Author.Rules.{rules}
 use Rattle.punch.proofs.plan_punch.Goals as goal
 
 pub first_held-start-requires : goal.first_held-start-requires

@@ -5,7 +5,6 @@ use Rattle.punch.specs.declared.PunchPlan.{PunchPlan}
 use borrow.Author.Tests.{ltb-true}
 use mathlib.Core.Path.{◌∙◌, sym, ap}
 use native.Mathlib.Omega.{arith}
-use borrow.Author.Rules.{rules}
 use Rattle.punch.proofs.punch_hole.Goals as goal
 
 pub returns-then-why-ne0 : goal.returns-then-why-ne0

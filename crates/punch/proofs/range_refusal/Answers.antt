@@ -1,5 +1,4 @@
 use Rattle.punch.proofs.Operating.{range_stop, range_go}
-use borrow.Author.Rules.{rules}
 use Rattle.punch.proofs.range_refusal.Goals as goal
 
 pub returns-then-broken-ne0 : goal.returns-then-broken-ne0

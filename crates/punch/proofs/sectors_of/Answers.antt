@@ -2,7 +2,6 @@ use mathlib.Core.Bool.{true, false}
 use Rattle.item.specs.Items.{items}
 use Rattle.punch.proofs.Sectors.{change_is}
 use Rattle.request.proofs.Stages.{sector-some}
-use borrow.Author.Rules.{rules}
 use Rattle.punch.proofs.sectors_of.Goals as goal
 
 pub in_one_sector-requires : goal.in_one_sector-requires

@@ -1,6 +1,5 @@
 use Rattle.punch.proofs.Sectors.{fitting, within-is}
 use native.Mathlib.Omega.{arith}
-use borrow.Author.Rules.{rules}
 use Rattle.punch.proofs.within_sector.Goals as goal
 
 pub round_down-first-requires : goal.round_down-first-requires

@@ -1,6 +1,5 @@
 use native.Mathlib.Nat.{add-zero}
 use mathlib.Core.Path.{refl}
-use borrow.Author.Rules.{rules}
 use Rattle.records.proofs.counted.Goals as goal
 
 pub returns-then-b : goal.returns-then-b

@@ -2,7 +2,6 @@ use Prim.Native.Nat.{◌+◌}
 use mathlib.Core.Path.{◌∙◌, sym}
 use native.Mathlib.Omega.{arith}
 use Rattle.records.proofs.Tests.{leb_sub, ltb-suc}
-use borrow.Author.Rules.{rules}
 use Rattle.records.proofs.sum_fits.Goals as goal
 
 pub returns : goal.returns

@@ -2,7 +2,6 @@ use mathlib.Core.Path.{◌∙◌, ap}
 use mathlib.Core.Bool.{not}
 use Prim.Native.Nat.{◌+◌}
 use Rattle.records.proofs.Tests.{not-leb}
-use borrow.Author.Rules.{rules}
 use Rattle.records.proofs.sum_past.Goals as goal
 
 pub returns : goal.returns

@@ -4,7 +4,6 @@ use Rattle.records.proofs.Lists.{any_of_two}
 use Prim.Native.Nat.{ℕ}
 use mathlib.Core.Bool.{Bool, ◌||◌}
 use mathlib.Core.Path.{◌∙◌, ap₂}
-use borrow.Author.Rules.{rules}
 use Rattle.ref_def.proofs.is_among.Goals as goal
 
 pub returns : goal.returns

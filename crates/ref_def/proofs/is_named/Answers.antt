@@ -1,7 +1,6 @@
 use mathlib.Core.Bool.{Bool, ◌&&◌, not}
 use mathlib.Core.Path.{ap₂}
 use mathlib.Core.Path.{ap, ◌∙◌}
-use borrow.Author.Rules.{rules}
 use Rattle.ref_def.proofs.is_named.Goals as goal
 
 pub returns : goal.returns

@@ -1,16 +1,14 @@
 use mathlib.Core.Path.{refl}
-use mathlib.Core.List.{[], ◌∷◌, flat_map}
-use Prim.Native.Nat.{◌-◌, ◌≤◌}
-use Rattle.records.proofs.Loops.{rest}
+use mathlib.Core.List.{[], ◌∷◌}
 use Rattle.records.proofs.Picks.{only-few}
 use Rattle.item.specs.Items.{fields, decode, items}
 use Rattle.item.proofs.Laws.{item-decode, rest-items}
 use Rattle.cut_def.specs.Refs.{ref_of}
 use Rattle.ref_def.specs.Compared.{among}
 use Rattle.plan_def.specs.Outputs.{ref_numbers}
-use Rattle.plan_lines.proofs.Laws.{Going, going_first}
+use Rattle.plan_lines.proofs.Laws.{going_first}
 use Rattle.plan_lines.proofs.Loops.{flat_turn, flat_done, going_length}
-use Rattle.ref_minus.specs.Walk.{refs_named, ref_named}
+use Rattle.ref_minus.specs.Walk.{ref_named}
 use Rattle.ref_minus.proofs.Turns.{named_flat}
 use native.Mathlib.Omega.{arith}
 use Rattle.ref_minus.proofs.collect.Goals as goal

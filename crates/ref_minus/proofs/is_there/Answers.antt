@@ -1,6 +1,5 @@
 use mathlib.Core.Path.{◌∙◌}
 use Rattle.ref_minus.proofs.Turns.{same-there, same-gone}
-use borrow.Author.Rules.{rules}
 use Rattle.ref_minus.proofs.is_there.Goals as goal
 
 pub returns-then-k-ys : goal.returns-then-k-ys

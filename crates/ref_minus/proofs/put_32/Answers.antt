@@ -1,7 +1,6 @@
 use mathlib.Core.Path.{refl}
 use native.Mathlib.Omega.{arith}
 use Rattle.ref_minus.proofs.Tiers.{buffers_fit}
-use borrow.Author.Rules.{rules}
 use Rattle.ref_minus.proofs.put_32.Goals as goal
 
 pub put_difference-requires : goal.put_difference-requires

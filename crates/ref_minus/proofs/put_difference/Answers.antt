@@ -2,7 +2,6 @@ use mathlib.Core.Path.{sym}
 use native.Mathlib.Omega.{arith}
 use lib.Seq.{length-take-le}
 use Rattle.ref_minus.proofs.Turns.{among-rises, part_fits, laid-minus}
-use borrow.Author.Rules.{rules}
 use Rattle.ref_minus.proofs.put_difference.Goals as goal
 
 pub slice_bounds-put_minus-end-2 : goal.slice_bounds-put_minus-end-2

@@ -1,14 +1,11 @@
 use mathlib.Core.Path.{refl}
 use mathlib.Core.Bool.{not}
-use Prim.Native.Nat.{◌+◌, ◌-◌, ◌/◌, ◌≤◌}
-use lib.ListN.{length}
-use borrow.Author.Rules.{rules}
 use Rattle.records.proofs.Picks.{only-few}
 use Rattle.plan_def.specs.Outputs.{ref_numbers}
 use Rattle.plan_lines.proofs.Laws.{going_first}
 use Rattle.plan_lines.proofs.Loops.{going_length}
 use Rattle.ref_sort.specs.Order.{pair_at}
-use Rattle.ref_minus.proofs.Turns.{met-there, Walking, walk_turn, walk_done}
+use Rattle.ref_minus.proofs.Turns.{met-there, walk_turn, walk_done}
 use native.Mathlib.Omega.{arith}
 use Rattle.ref_minus.proofs.put_minus.Goals as goal
 

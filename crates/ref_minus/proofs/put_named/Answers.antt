@@ -3,7 +3,6 @@ use Rattle.item.specs.Items.{fields}
 use Rattle.plan_def.specs.Outputs.{ref_numbers}
 use Rattle.ref_def.proofs.Compared.{ref_of_lem}
 use Rattle.plan_lines.proofs.Loops.{laid-yes, laid-no}
-use borrow.Author.Rules.{rules}
 use Rattle.ref_minus.proofs.put_named.Goals as goal
 
 pub returns-then-is_among : goal.returns-then-is_among

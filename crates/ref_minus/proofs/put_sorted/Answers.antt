@@ -1,5 +1,4 @@
 use Rattle.ref_minus.proofs.Tiers.{items-most}
-use borrow.Author.Rules.{rules}
 use Rattle.ref_minus.proofs.put_sorted.Goals as goal
 
 pub put_32-requires : goal.put_32-requires

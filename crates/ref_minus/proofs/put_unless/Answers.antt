@@ -1,5 +1,4 @@
 use Rattle.ref_minus.proofs.Turns.{unless-met, unless-put}
-use borrow.Author.Rules.{rules}
 use Rattle.ref_minus.proofs.put_unless.Goals as goal
 
 pub returns-then-met : goal.returns-then-met

@@ -1,9 +1,4 @@
-use mathlib.Core.Path.{◌≡◌, refl, ◌∙◌}
-use Prim.Native.Nat.{◌-◌, ◌/◌, ◌≤◌}
-use lib.ListN.{length, drop}
-use borrow.Author.Rules.{rules}
-use Rattle.plan_def.specs.ReadBack.{refs_in}
-use Rattle.ref_minus.specs.Walk.{past}
+use mathlib.Core.Path.{refl, ◌∙◌}
 use Rattle.ref_sort.proofs.Inserting.{starts-there}
 use Rattle.ref_minus.proofs.Turns.{past-turn, past-done}
 use native.Mathlib.Omega.{arith}

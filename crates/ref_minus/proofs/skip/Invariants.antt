@@ -1,12 +1,8 @@
-use mathlib.Core.Path.{◌≡◌, refl, ◌∙◌}
+use mathlib.Core.Path.{◌≡◌}
 use Prim.Native.Nat.{◌-◌, ◌/◌, ◌≤◌}
 use lib.ListN.{length, drop}
-use borrow.Author.Rules.{rules}
 use Rattle.plan_def.specs.ReadBack.{refs_in}
 use Rattle.ref_minus.specs.Walk.{past}
-use Rattle.ref_sort.proofs.Inserting.{starts-there}
-use Rattle.ref_minus.proofs.Turns.{past-turn, past-done}
-use native.Mathlib.Omega.{arith}
 use Rattle.ref_minus.proofs.skip.Given as goal
 
 abbrev pub invariant-loop-k : goal.invariant-loop-k

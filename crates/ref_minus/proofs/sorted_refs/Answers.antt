@@ -7,7 +7,6 @@ use Rattle.item.specs.Items.{items}
 use Rattle.ref_sort.proofs.Pairs.{take-few}
 use Rattle.ref_minus.proofs.Turns.{lines-few, lines-room, part-sorted}
 use native.Mathlib.Omega.{arith}
-use borrow.Author.Rules.{rules}
 use Rattle.ref_minus.proofs.sorted_refs.Goals as goal
 
 pub overflow_mul-end : goal.overflow_mul-end

@@ -1,8 +1,6 @@
 use mathlib.Core.Path.{◌∙◌, ap₂, sym}
-use borrow.Author.Tests.{not-true, not-false}
 use Rattle.records.specs.Stages.{first}
 use Rattle.request.proofs.Stages.{sector-some, sector-four, sector_go}
-use borrow.Author.Rules.{rules}
 use Rattle.request.proofs.fours.Goals as goal
 
 pub returns-then-not-sector_sound : goal.returns-then-not-sector_sound

@@ -1,7 +1,6 @@
 use mathlib.Core.Path.{◌∙◌, ap₂}
 use Rattle.records.specs.Stages.{first}
 use Rattle.request.proofs.Stages.{lent-groups}
-use borrow.Author.Rules.{rules}
 use Rattle.request.proofs.lent_refusal.Goals as goal
 
 pub returns : goal.returns

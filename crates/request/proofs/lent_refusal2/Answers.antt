@@ -1,7 +1,6 @@
 use mathlib.Core.Path.{◌∙◌, ap₂}
 use Rattle.records.specs.Stages.{first}
 use Rattle.request.proofs.Stages.{lent-groups2}
-use borrow.Author.Rules.{rules}
 use Rattle.request.proofs.lent_refusal2.Goals as goal
 
 pub returns : goal.returns

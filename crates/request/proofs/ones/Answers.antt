@@ -1,6 +1,5 @@
 use mathlib.Core.Path.{◌∙◌, ap₂}
 use Rattle.records.specs.Stages.{first}
-use borrow.Author.Rules.{rules}
 use Rattle.request.proofs.ones.Goals as goal
 
 pub returns : goal.returns

@@ -1,7 +1,6 @@
 use mathlib.Core.Path.{◌∙◌, ap}
 use mathlib.Core.Bool.{Bool, ◌||◌}
 use lib.Dec.{eqb}
-use borrow.Author.Rules.{rules}
 use Rattle.request.proofs.sector_sound.Goals as goal
 
 pub returns : goal.returns

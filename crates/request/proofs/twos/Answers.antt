@@ -1,7 +1,6 @@
 use mathlib.Core.Path.{◌∙◌, ap, ap₂}
 use mathlib.Core.Bool.{Bool}
 use Rattle.records.specs.Stages.{first, unless}
-use borrow.Author.Rules.{rules}
 use Rattle.request.proofs.twos.Goals as goal
 
 pub returns : goal.returns

@@ -1,5 +1,5 @@
 use Prim.Native.Nat.{◌+◌, ◌-◌, ◌/◌}
-use Rattle.table.proofs.Halves.{Between, between_all, up, down, hit, miss}
+use Rattle.table.proofs.Halves.{between_all, up, down, hit, miss}
 use native.Mathlib.Omega.{arith}
 use Rattle.table.proofs.find_row.Goals as goal
 

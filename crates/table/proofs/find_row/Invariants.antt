@@ -1,6 +1,5 @@
-use Prim.Native.Nat.{◌+◌, ◌-◌, ◌/◌}
-use Rattle.table.proofs.Halves.{Between, between_all, up, down, hit, miss}
-use native.Mathlib.Omega.{arith}
+use Prim.Native.Nat.{◌-◌}
+use Rattle.table.proofs.Halves.{Between}
 use Rattle.table.proofs.find_row.Given as goal
 
 -- By halves: the rows below lo start before `start`, those from hi on after it.

@@ -1,7 +1,6 @@
 use Prim.Native.Nat.{◌+◌}
 use Rattle.table.proofs.Laws.{window_outside}
 use native.Mathlib.Omega.{arith}
-use borrow.Author.Rules.{rules}
 use Rattle.table.proofs.item_window_inside.Goals as goal
 
 pub returns-then-position-bytenr : goal.returns-then-position-bytenr

@@ -2,7 +2,6 @@ use mathlib.Core.Path.{◌∙◌, ap, ap₂}
 use mathlib.Core.Bool.{Bool, ◌&&◌}
 use lib.Dec.{leb}
 use Rattle.records.specs.Stages.{unless}
-use borrow.Author.Rules.{rules}
 use Rattle.table.proofs.row_refusal.Goals as goal
 
 pub returns : goal.returns

@@ -1,9 +1,6 @@
-use mathlib.Core.Path.{◌≡◌, ◌∙◌, refl, sym}
-use Prim.Native.Nat.{◌-◌, ◌≤◌}
-use Rattle.records.specs.Stages.{unless}
-use Rattle.records.specs.Raw.{sieve}
-use Rattle.records.proofs.Loops.{rest, sieve-turn, sieve_stop, sieve-done}
-use Rattle.table.specs.Rows.{row_of, rows, table_kept}
+use mathlib.Core.Path.{◌∙◌, refl, sym}
+use Rattle.records.proofs.Loops.{sieve-turn, sieve_stop, sieve-done}
+use Rattle.table.specs.Rows.{row_of, rows}
 use Rattle.table.specs.Raw.{row_refusal, row_end}
 use Rattle.table.proofs.Laws.{rows-rest, sieve-kept, row_fits}
 use native.Mathlib.Omega.{arith}

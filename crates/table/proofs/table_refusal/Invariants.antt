@@ -1,12 +1,10 @@
-use mathlib.Core.Path.{◌≡◌, ◌∙◌, refl, sym}
+use mathlib.Core.Path.{◌≡◌}
 use Prim.Native.Nat.{◌-◌, ◌≤◌}
 use Rattle.records.specs.Stages.{unless}
 use Rattle.records.specs.Raw.{sieve}
-use Rattle.records.proofs.Loops.{rest, sieve-turn, sieve_stop, sieve-done}
+use Rattle.records.proofs.Loops.{rest}
 use Rattle.table.specs.Rows.{row_of, rows, table_kept}
 use Rattle.table.specs.Raw.{row_refusal, row_end}
-use Rattle.table.proofs.Laws.{rows-rest, sieve-kept, row_fits}
-use native.Mathlib.Omega.{arith}
 use Rattle.table.proofs.table_refusal.Given as goal
 
 -- The loop is a sieve over the rows that are left, with the end of the row before as its state.

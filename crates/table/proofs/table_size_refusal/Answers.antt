@@ -5,7 +5,6 @@ use lib.ListN.{length}
 use Rattle.table.proofs.Laws.{rows-length}
 use mathlib.Core.Bool.{Bool, ◌&&◌}
 use Rattle.records.specs.Stages.{unless}
-use borrow.Author.Rules.{rules}
 use Rattle.table.proofs.table_size_refusal.Goals as goal
 
 pub returns : goal.returns

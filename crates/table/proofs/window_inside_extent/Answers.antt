@@ -1,6 +1,5 @@
 use Rattle.table.proofs.Laws.{window_ends, window_outside}
 use native.Mathlib.Omega.{arith}
-use borrow.Author.Rules.{rules}
 use Rattle.table.proofs.window_inside_extent.Goals as goal
 
 pub returns-then-len-logical : goal.returns-then-len-logical

@@ -1,7 +1,6 @@
 use Rattle.table.proofs.Windows.{window_read}
 use Rattle.item.specs.Items.{fields}
 use mathlib.Core.Path.{◌∙◌}
-use borrow.Author.Rules.{rules}
 use Rattle.table.proofs.window_sound.Goals as goal
 
 pub returns : goal.returns

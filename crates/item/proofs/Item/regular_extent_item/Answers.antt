@@ -1,5 +1,4 @@
 use Rattle.item.proofs.Laws.{regular-item}
-use Rattle.std.proofs.Common.{rules}
 use Rattle.item.proofs.Item.regular_extent_item.Goals as goal
 
 pub returns : goal.returns
