@@ -2,14 +2,12 @@
 use mathlib.Core.Path.{◌≡◌, refl, sym}
 use mathlib.Core.List.{List, [], ◌∷◌}
 use Prim.Native.Nat.{ℕ, ◌≤◌, ◌<◌}
-use lib.Dec.{leb}
 use lib.ListN.{length}
 use borrow.Author.Tests.{le-leb, lt-leb}
-use Rattle.records.specs.Stages.{unless}
 use Rattle.endian.specs.Le.{put}
-use Rattle.apply_def.specs.Apply.{Applying, or_applied}
+use Rattle.apply_def.specs.Apply.{Applying}
 use Rattle.apply.specs.declared.Applied.{Applied}
-use Rattle.apply.specs.Outcomes.{Told, done, refused, applied_said, told, MetApplyingWith}
+use Rattle.apply.specs.Outcomes.{Told, done, applied_said, MetApplyingWith}
 use Rattle.ffi_apply.specs.Exports.{with_two, Heard, ExportedWith}
 
 -- a plan that is applied is told by its two counts

@@ -1,7 +1,6 @@
 use mathlib.Core.Path.{◌∙◌, sym}
 use native.Mathlib.Omega.{arith}
 use Rattle.extplan_reply.proofs.Replying.{lying, fault_replied, plan-replied}
-use borrow.Author.Rules.{rules}
 use Rattle.extplan_reply.proofs.answer.Goals as goal
 
 pub returns-then-fault-ne0 : goal.returns-then-fault-ne0

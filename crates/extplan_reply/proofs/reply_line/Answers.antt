@@ -1,5 +1,4 @@
 use Rattle.extplan_reply.proofs.Lines.{answered_line, fault-line, no_line}
-use borrow.Author.Rules.{rules}
 use Rattle.extplan_reply.proofs.reply_line.Goals as goal
 
 pub returns-then-r-eq0 : goal.returns-then-r-eq0

@@ -5,7 +5,6 @@ use lib.Seq.{sets-eq}
 use Rattle.endian.specs.Le.{put}
 use Rattle.apply.specs.Outcomes.{applied_said}
 use Rattle.ffi_apply.proofs.Telling.{heard-done}
-use borrow.Author.Rules.{rules}
 use Rattle.ffi_apply.proofs.tell.Goals as goal
 
 pub returns-in-Done : goal.returns-in-Done

@@ -1,5 +1,4 @@
 use Rattle.ffi_apply.proofs.Telling.{export_short, export-told}
-use borrow.Author.Rules.{rules}
 use Rattle.ffi_apply.proofs.zag_apply.Goals as goal
 
 pub returns-then-answer-lt2 : goal.returns-then-answer-lt2
