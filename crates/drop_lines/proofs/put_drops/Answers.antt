@@ -6,7 +6,7 @@ put_few-requires c = record {
   table_value = c.requires.table_value;
   shared_len = c.requires.shared_len;
   list_bound = c.requires.list_bound;
-  table_len_bound = (omega (arith, c.upper-most.ensures, c.if-most-le64.true), omega (arith, c.upper-most.ensures, c.if-most-le64.true));
+  table_len_bound = (omega (arith, c.upper-most.ensures), omega (arith, c.upper-most.ensures));
 }
 
 pub put_some-requires : goal.put_some-requires
@@ -14,7 +14,7 @@ put_some-requires c = record {
   table_value = c.requires.table_value;
   shared_len = c.requires.shared_len;
   list_bound = c.requires.list_bound;
-  table_len_bound = (omega (arith, c.upper-most.ensures, c.if-most-le1024.true), omega (arith, c.upper-most.ensures, c.if-most-le1024.true));
+  table_len_bound = (omega (arith, c.upper-most.ensures), omega (arith, c.upper-most.ensures));
 }
 
 pub put_many-requires : goal.put_many-requires
@@ -22,5 +22,5 @@ put_many-requires c = record {
   table_value = c.requires.table_value;
   shared_len = c.requires.shared_len;
   list_bound = c.requires.list_bound;
-  table_len_bound = (omega (arith, c.upper-most.ensures, c.if-most-le65536.true), omega (arith, c.upper-most.ensures, c.if-most-le65536.true));
+  table_len_bound = (omega (arith, c.upper-most.ensures), omega (arith, c.upper-most.ensures));
 }
