@@ -1,3 +1,4 @@
+-- The tests as the code nests them are those of the definition, and these look only at the numbers.
 use mathlib.Core.Path.{◌≡◌, ◌∙◌, ap}
 use mathlib.Core.Bool.{Bool}
 use Rattle.records.specs.Stages.{unless}

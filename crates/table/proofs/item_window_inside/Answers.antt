@@ -1,3 +1,4 @@
+-- A start that leaves 64 bits takes the window out with it.
 use Prim.Native.Nat.{◌+◌}
 use Rattle.table.proofs.Laws.{window_outside}
 use native.Mathlib.Omega.{arith}

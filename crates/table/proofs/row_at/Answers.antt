@@ -1,3 +1,4 @@
+-- The row that stands at n * 5.
 use Prim.Native.Nat.{◌*◌}
 use mathlib.Core.Path.{◌∙◌}
 use Rattle.table.proofs.Laws.{row_read}

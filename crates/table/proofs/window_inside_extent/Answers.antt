@@ -1,3 +1,4 @@
+-- Each early return answers for one of the tests of `window_inside`, and the last comparison is what is left of it.
 use Rattle.table.proofs.Laws.{window_ends, window_outside}
 use native.Mathlib.Omega.{arith}
 use Rattle.table.proofs.window_inside_extent.Goals as goal
