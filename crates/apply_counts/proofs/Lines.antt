@@ -10,13 +10,13 @@ use lib.Dec.{eqb}
 use lib.ListN.{length, get_or, drop, set}
 use lib.Seq.{get_or-drop, get_or-set_same, get_or-set_other}
 use borrow.Author.Tests.{eq-eqb, ne_eqb}
+use Rattle.std.specs.Prelude.{Some, None}
 use Rattle.records.specs.Select.{any, count}
 use Rattle.records.specs.Stages.{first, stage}
 use Rattle.records.proofs.Loops.{records-length, records_cons, records_nil}
 use Rattle.records.proofs.Tests.{first_go, first_last, first_assoc}
 use Rattle.records.proofs.Counts.{count-length}
 use Rattle.table.specs.declared.Row.{Row}
-use Rattle.table.specs.declared.Found.TheVariants.{At, Missing}
 use Rattle.table.specs.Rows.{table_kept, find}
 use Rattle.table.proofs.Laws.{kept_rising, found_below, found_row, found_start, missing-none, with_row_lem, with_none}
 use Rattle.cut_def.specs.Refs.{Ref}
@@ -27,7 +27,7 @@ use Rattle.apply_counts.specs.Counts.{missing, names, Tallied, AllTallied, Marke
 -- ---- which row a line names
 
 module _ (rs : List Row) (kept : table_kept rs ≡ true) (start : ℕ) where
-  module _ (k : ℕ) (row : Row) (h : At k row ≡ find start rs) where
+  module _ (k : ℕ) (row : Row) (h : Some (k, row) ≡ find start rs) where
     pub there : k < length rs
     there = found_below rs start k row (sym h)
 
@@ -64,7 +64,7 @@ module _ (rs : List Row) (kept : table_kept rs ≡ true) (start : ℕ) where
           ];
         }
 
-  module _ (h : Missing ≡ find start rs) where
+  module _ (h : None ≡ find start rs) where
     named_none : (y : ℕ) (e : Row) → y < length rs → eqb start (get_or rs y e).start ≡ false
     named_none y e l = ne_eqb start (get_or rs y e).start (λ q. missing-none rs start (sym h) y e l (sym q))
 

@@ -12,14 +12,13 @@ ghost use Rattle.plan_def.specs.ReadBack.{refs_in};
 ghost use Rattle.apply_counts.specs.Counts.{Tallied, AllTallied, Marked, AllMarked, Counted, net_fits, nets_from};
 
 use records::{counted, first, refusal, sum_fits, unless};
-use table::Found;
 
 // The count of the row that starts at `start`, one higher; 14 without a row.
 fn tally_line(table: &[u64], start: u64, counts: &mut [u64]) -> u8
     requires { (table_kept (rows table.now) ≡ true) × (length (rows table.now) ≤ length counts.old) × ((y : ℕ) → y < length (rows table.now) → get_or counts.old y 0 + 1 < 2 ^ 64) }
     ensures { Tallied (rows table.now) start counts.old result counts.new }
 {
-    let Found::At(k, _) = table::find_row(table, start) else {
+    let Some((k, _)) = table::find_row(table, start) else {
         return refusal::NO_ROW;
     };
     counts[k] = counts[k] + 1;
@@ -43,7 +42,7 @@ fn mark_line(table: &[u64], start: u64, marks: &mut [u8])
     requires { (table_kept (rows table.now) ≡ true) × (length (rows table.now) ≤ length marks.old) }
     ensures { Marked (rows table.now) start marks.old marks.new }
 {
-    let Found::At(k, _) = table::find_row(table, start) else {
+    let Some((k, _)) = table::find_row(table, start) else {
         return;
     };
     marks[k] = 1;

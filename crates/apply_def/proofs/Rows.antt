@@ -8,13 +8,13 @@ use native.Mathlib.Decide.{dec_lt}
 use lib.Dec.{eqb, ltb}
 use lib.ListN.{get_or}
 use borrow.Author.Tests.{eqb-true, eq-eqb}
+use Rattle.std.specs.Prelude.{Some, None}
 use Rattle.records.specs.Stages.{first_of, stage, every}
 use Rattle.records.specs.Select.{keep, count}
 use Rattle.records.proofs.Tests.{both, both_left, both_right, first_of_zero, unless-zero, stage-zero}
 use Rattle.records.proofs.Counts.{count_append, count_map, count-keep, count_most, count-some, mem_at, at_count, any_none}
 use Rattle.item.specs.Items.{Fields}
 use Rattle.table.specs.declared.Row.{Row}
-use Rattle.table.specs.declared.Found.TheVariants.{At, Missing}
 use Rattle.table.specs.Rows.{table_kept, find}
 use Rattle.table.proofs.Laws.{kept-tail, kept_rising, kept_found, found_below, found_row, found_start}
 use Rattle.lists.specs.Lists.{list_kept, whole_sectors, well_kept}
@@ -30,7 +30,7 @@ abbrev starts_at : ℕ → Row → Bool
 starts_at start r = eqb r.start start
 
 -- what is in it is found by its start
-pub kept_mem : (rs : List Row) → table_kept rs ≡ true → (row : Row) → Memᴰ row rs → (k : ℕ) × (find row.start rs ≡ At k row)
+pub kept_mem : (rs : List Row) → table_kept rs ≡ true → (row : Row) → Memᴰ row rs → (k : ℕ) × (find row.start rs ≡ Some (k, row))
 kept_mem rs h row m = let s = mem_at m row in (s.0, rw s.2 at (kept_found rs h s.0 row s.1))
 
 -- no two rows have one start
@@ -52,7 +52,7 @@ kept-once start (r ∷ rs) h = go (eqb r.start start) refl (kept-once start rs (
 
 -- a search finds a row with so many references
 abbrev pub Counted : ℕ → ℕ → List Row → Type 0
-Counted start n rs = (k : ℕ) × (row : Row) × (find start rs ≡ At k row) × (row.references ≡ n)
+Counted start n rs = (k : ℕ) × (row : Row) × (find start rs ≡ Some (k, row)) × (row.references ≡ n)
 
 abbrev counts : ℕ → ℕ → Row → Bool
 counts start n r = starts_at start r && eqb r.references n
@@ -92,7 +92,7 @@ after-counts q generation p rs =
     ∙ rw (count_map q (row_of_add generation) p.adds, count_map q (moved p) (keep stay rs), count-keep (λ r. q (moved p r)) stay rs) refl
 
 -- an extent without a row stands in no line
-missing-lines : (rs : List Row) (start : ℕ) → find start rs ≡ Missing → (l : List Ref) → stage (row_missing rs) l ≡ 0 → lines_at start l ≡ 0
+missing-lines : (rs : List Row) (start : ℕ) → find start rs ≡ None → (l : List Ref) → stage (row_missing rs) l ≡ 0 → lines_at start l ≡ 0
 unfolding count
 missing-lines rs start m [] h = refl
 missing-lines rs start m (r ∷ l) h = let z = stage-zero (row_missing rs) r l h in go (eqb r.start start) refl z.0 (missing-lines rs start m l z.1)
@@ -150,7 +150,7 @@ module _ {sector number generation : ℕ} {fs : List Fields} {rs : List Row} {p 
       kept-counted start 1 (rows_after generation p rs) a.table (omega (arith, after-counts q generation p rs))
 
   -- a row that no release names has its references moved
-  pub moved-counted : (k : ℕ) (row : Row) → find start rs ≡ At k row → lines_at start p.releases ≡ 0 → Counted start (row.references + gained p start - lost p start) (rows_after generation p rs)
+  pub moved-counted : (k : ℕ) (row : Row) → find start rs ≡ Some (k, row) → lines_at start p.releases ≡ 0 → Counted start (row.references + gained p start - lost p start) (rows_after generation p rs)
   moved-counted k row f z =
       let n : ℕ = row.references + gained p start - lost p start in
       let q : Row → Bool = counts start n in
@@ -161,7 +161,7 @@ module _ {sector number generation : ℕ} {fs : List Fields} {rs : List Row} {p 
       kept-counted start n (rows_after generation p rs) a.table (omega (arith, after-counts q generation p rs))
 
   -- an extent without a row is not counted
-  pub missing-counts : find start rs ≡ Missing → gained p start + lost p start ≡ 0
+  pub missing-counts : find start rs ≡ None → gained p start + lost p start ≡ 0
   missing-counts m =
       let q : Ref → Bool = λ r. eqb r.start start in
       omega (arith, missing-lines rs start m (p.shares ++ (p.unrefs ++ p.releases)) a.lines, count_append q p.shares (p.unrefs ++ p.releases), count_append q p.unrefs p.releases)

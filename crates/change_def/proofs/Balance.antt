@@ -8,6 +8,7 @@ use native.Mathlib.Omega.{arith}
 use lib.Dec.{eqb, ltb}
 use lib.ListN.{length, get_or}
 use borrow.Author.Tests.{eqb-true, ltb-true, eq-eqb, ne_eqb, le-ltb, not-true}
+use Rattle.std.specs.Prelude.{Some, None}
 use Rattle.records.specs.Stages.{every, pairs}
 use Rattle.records.specs.Select.{keep, any, count}
 use Rattle.records.proofs.Tests.{both, both_left, both_right, either_left, either_right, every_map, every_both, every-at, first_of_zero}
@@ -17,7 +18,6 @@ use Rattle.item.specs.Items.{Fields, ranged, hole, end}
 use Rattle.lists.specs.Lists.{item_sound, rises}
 use Rattle.lists.proofs.Order.{item-ranged}
 use Rattle.table.specs.declared.Row.{Row}
-use Rattle.table.specs.declared.Found.TheVariants.{At, Missing}
 use Rattle.table.specs.Rows.{find}
 use Rattle.table.proofs.Laws.{kept-length}
 use Rattle.cut_def.specs.Cuts.{covered, split}
@@ -278,7 +278,7 @@ module _ (g : Ground) (c : Change) (fair : Fair g c) where
     -- ---- new extents are new
 
     -- no add has a row
-    pub adds_fresh : (k : ℕ) (e : Add) → k < length (plan_of g c limit places).adds → find (get_or (plan_of g c limit places).adds k e).start g.rows ≡ Missing
+    pub adds_fresh : (k : ℕ) (e : Add) → k < length (plan_of g c limit places).adds → find (get_or (plan_of g c limit places).adds k e).start g.rows ≡ None
     adds_fresh k e l =
         let ws : List Wanted = wanted g c limit in
         let w : Wanted = record { key = 0; length = 0; kind = 0 } in
@@ -289,13 +289,13 @@ module _ (g : Ground) (c : Change) (fair : Fair g c) where
         rw (placed_at places ws k e w (omega arith) (omega arith)) f
 
     -- so none is at an extent that has one
-    pub adds-elsewhere : (st k : ℕ) (row : Row) → find st g.rows ≡ At k row → count (λ (a : Add). eqb a.start st) (plan_of g c limit places).adds ≡ 0
+    pub adds-elsewhere : (st k : ℕ) (row : Row) → find st g.rows ≡ Some (k, row) → count (λ (a : Add). eqb a.start st) (plan_of g c limit places).adds ≡ 0
     adds-elsewhere st k row f =
         let new : List Add = placed places (wanted g c limit) in
         let e : Add = record { start = 0; length = 0; key = 0 } in
         count_none (λ (a : Add). eqb a.start st) new
         (at_every (λ (a : Add). not (eqb a.start st)) e new
-        (λ i l. rw (ne_eqb (get_or new i e).start st (λ q. let m : find st g.rows ≡ Missing = rw q at (adds_fresh i e l) in let z : ◌≡◌ {A = ℕ} 0 1 = cc in omega arith)) refl))
+        (λ i l. rw (ne_eqb (get_or new i e).start st (λ q. let m : find st g.rows ≡ None = rw q at (adds_fresh i e l) in let z : ◌≡◌ {A = ℕ} 0 1 = cc in omega arith)) refl))
 
     -- ---- shared extents are named
 

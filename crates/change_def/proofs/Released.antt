@@ -7,6 +7,7 @@ use native.Mathlib.Omega.{arith}
 use lib.Dec.{eqb, leb, ltb}
 use lib.ListN.{length}
 use borrow.Author.Tests.{eqb-true, leb-true, ltb-true, eq-eqb, not-true}
+use Rattle.std.specs.Prelude.{Some}
 use Rattle.records.specs.Stages.{every}
 use Rattle.records.specs.Select.{any, count}
 use Rattle.records.proofs.Tests.{both, both_left, both_right, every-keep}
@@ -14,7 +15,6 @@ use Rattle.records.proofs.Lists.{any_some, any_where}
 use Rattle.records.proofs.Counts.{count_append, count-apart, count-any, any-count}
 use Rattle.item.specs.Items.{Fields, ranged, hole, end}
 use Rattle.table.specs.declared.Row.{Row}
-use Rattle.table.specs.declared.Found.TheVariants.{At}
 use Rattle.table.specs.Rows.{find}
 use Rattle.cut_def.specs.Cuts.{touched, covered, split}
 use Rattle.cut_def.specs.Mappings.{named}
@@ -100,9 +100,9 @@ module _ (g : Ground) (c : Change) (fair : Fair g c) (st : ℕ) where
   module _ (limit : ℕ) (pos : 0 < limit) (sectors : limit % g.sector ≡ 0) (places : List ℕ) (sound : places_sound g.rows places (wanted g c limit) ≡ true) where
     module _
         (z : change_refusal g c ≡ 0) (others : ℕ)
-        (row : 0 < naming st (before g c) + others → (k : ℕ) × (r : Row) × (find st g.rows ≡ At k r) × (r.references ≡ naming st (before g c) + others)) where
+        (row : 0 < naming st (before g c) + others → (k : ℕ) × (r : Row) × (find st g.rows ≡ Some (k, r)) × (r.references ≡ naming st (before g c) + others)) where
       -- what is left of the balance where the extent is not in place and has a row
-      balance_of : any (eqb st) (extents_in_place g c) ≡ false → (k : ℕ) (r : Row) → find st g.rows ≡ At k r
+      balance_of : any (eqb st) (extents_in_place g c) ≡ false → (k : ℕ) (r : Row) → find st g.rows ≡ Some (k, r)
           → naming st (items_of (pieces_after g c limit places)) + length (drops_of st (drops g c)) ≡ naming st (before g c) + count (starts st) (kept_shares g c)
       balance_of n k r f =
           omega (
@@ -130,7 +130,7 @@ module _ (g : Ground) (c : Change) (fair : Fair g c) (st : ℕ) where
           let n : l.1.references ≡ naming st (before g c) + others = rw e r.3 in
           (some, omega (arith, l.3, balance_of (dropped-elsewhere d) l.0 l.1 l.2))
         where
-          same_row : (j k : ℕ) (a b : Row) → find st g.rows ≡ At j a → find st g.rows ≡ At k b → a ≡ b
+          same_row : (j k : ℕ) (a b : Row) → find st g.rows ≡ Some (j, a) → find st g.rows ≡ Some (k, b) → a ≡ b
           same_row j k a b p q = cc
 
       -- no reference is left: a release

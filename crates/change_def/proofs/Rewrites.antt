@@ -8,12 +8,11 @@ use Prim.Native.Nat.{ℕ, ◌+◌, ◌<◌}
 use native.Mathlib.Omega.{arith}
 use lib.Dec.{eqb, ltb}
 use borrow.Author.Tests.{eqb-true, eq-eqb, ltb-true}
+use Rattle.std.specs.Prelude.{Some, None}
 use Rattle.records.specs.Stages.{whenever, unless, first, first_of, every}
 use Rattle.records.proofs.Tests.{both_left, both_right, first-zero, first_of_zero, unless-zero}
 use Rattle.table.specs.declared.Row.{Row}
-use Rattle.table.specs.declared.Found.{Found}
-use Rattle.table.specs.declared.Found.TheVariants.{At, Missing}
-use Rattle.table.specs.Rows.{find, with_row}
+use Rattle.table.specs.Rows.{Found, find, with_row}
 use Rattle.table.specs.Windows.{window_inside}
 use Rattle.cut_def.specs.Mappings.{holds, holder}
 use Rattle.cut_def.specs.Refs.{naming}
@@ -86,7 +85,7 @@ in_place_some g r = (there (preallocated g r) refl, λ p. rw p.1 refl)
 pub record SoundRewrite (g : Ground) (r : Rewrite) (h : InLeaf) : Type 0 where
   pub number : ℕ
   pub row : Row
-  pub found : find h.item.extent_start g.rows ≡ At number row
+  pub found : find h.item.extent_start g.rows ≡ Some (number, row)
   pub inside : window_inside (h.item.extent_start + position_of r h) g.sector h.item.extent_start row.length ≡ true
   pub own : row.references ≡ naming h.item.extent_start (leaf_items g.in_leaves)
   pub fresh : g.snapshot < row.made
@@ -106,7 +105,7 @@ in_place_zero g r h z = go (find h.item.extent_start g.rows) refl z
 
     go : (f : Found) → find h.item.extent_start g.rows ≡ f
         → with_row f (λ (row : Row). first_of (unless (window row) 17 ∷ unless (own row && rest row) 18 ∷ [])) ≡ 0 → SoundRewrite g r h
-    go (At k row) e z =
+    go (Some (k, row)) e z =
         let p = first_of_zero (unless (window row) 17 ∷ unless (own row && rest row) 18 ∷ []) z in
         let t = unless-zero (own row && rest row) 18 p.1.0 (λ n. omega arith) in
         let u : rest row ≡ true = both_right (own row) (rest row) t in
@@ -119,7 +118,7 @@ in_place_zero g r h z = go (find h.item.extent_start g.rows) refl z
           fresh = ltb-true g.snapshot row.made (both_left (ltb g.snapshot row.made) (eqb h.shared 0) u);
           unshared = eqb-true h.shared 0 (both_right (ltb g.snapshot row.made) (eqb h.shared 0) u);
         }
-    go Missing e z = absurd (omega arith)
+    go None e z = absurd (omega arith)
 
 -- a rewrite in place that is not refused is sound
 pub rewrite_sound : (g : Ground) (r : Rewrite) (h : InLeaf) → rewrite_refusal g r ≡ 0 → preallocated g r ≡ some h → SoundRewrite g r h

@@ -7,12 +7,12 @@ use Prim.Native.Nat.{ℕ, ◌+◌, ◌-◌, ◌<◌, ◌≤◌, ◌^◌}
 use native.Mathlib.Omega.{arith}
 use lib.Dec.{eqb, leb, ltb}
 use borrow.Author.Tests.{leb-true, ltb-true}
+use Rattle.std.specs.Prelude.{Some, None}
 use Rattle.records.specs.Stages.{whenever, unless, first, first_of, every}
 use Rattle.records.proofs.Tests.{both_left, both_right, implied, first_last}
 use Rattle.records.proofs.Lists.{every_mem, every-mapped}
 use Rattle.item.specs.Items.{Fields, ranged, hole, end}
 use Rattle.table.specs.declared.Row.{Row}
-use Rattle.table.specs.declared.Found.TheVariants.{At, Missing}
 use Rattle.table.specs.Rows.{find}
 use Rattle.table.specs.Windows.{window_inside}
 use Rattle.table.proofs.Laws.{with_none}
@@ -37,14 +37,14 @@ position_facts f o s h =
     (low, omega arith)
 
 module _ (sector snapshot : ℕ) (fs : List Fields) (rows : List Row) (r : Rewrite) (h : InLeaf) where
-  pub in_place_missing : (s : ℕ) → s ≡ h.item.extent_start → Missing ≡ find s rows → 14 ≡ in_place_why sector snapshot fs rows r h
+  pub in_place_missing : (s : ℕ) → s ≡ h.item.extent_start → None ≡ find s rows → 14 ≡ in_place_why sector snapshot fs rows r h
   in_place_missing s p e = with_none h.item.extent_start rows _ (rw p at e)
 
   -- each premise is what a call of the code ensures
   pub in-place-found :
       (s k : ℕ) (row : Row) (at : ℕ) (inside : Bool) (n a : ℕ) (fresh own : Bool) (b why : ℕ)
       → s ≡ h.item.extent_start
-      → At k row ≡ find s rows
+      → Some (k, row) ≡ find s rows
       → at ≡ position_of r h
       → inside ≡ window_inside (s + at) sector s row.length
       → n ≡ naming s fs
@@ -56,7 +56,7 @@ module _ (sector snapshot : ℕ) (fs : List Fields) (rows : List Row) (r : Rewri
       → why ≡ in_place_why sector snapshot fs rows r h
   unfolding first_of
   in-place-found s k row at inside n a fresh own b why ps pe pat pin pn pa pf po pb pw =
-      let e : At k row ≡ find h.item.extent_start rows = rw ps at pe in
+      let e : Some (k, row) ≡ find h.item.extent_start rows = rw ps at pe in
       rw (pw, pa, pb, po, pf, pn, pin, pat, ps, ← e, first_last) refl
 
 -- ---- a rewrite, by the item that holds its sector

@@ -22,7 +22,6 @@ use change_def::Rewrite;
 use item::Item;
 use records::{both, first, refusal, sum_past, unless, whenever};
 use request::{File, Volume};
-use table::Found;
 
 // The item that holds an offset, with its shared byte, if there is one.
 #[derive(Clone, Copy)]
@@ -101,7 +100,7 @@ fn in_place_refusal(v: Volume, r: Rewrite, h: Holder, list: &[u8], table: &[u64]
 {
     let item = h.item;
     let start = item.extent_start();
-    let Found::At(_, row) = table::find_row(table, start) else {
+    let Some((_, row)) = table::find_row(table, start) else {
         return refusal::NO_ROW;
     };
     let inside = table::item_window_inside(start, position_of(r, h), v.sector, row.length);

@@ -8,13 +8,13 @@ use native.Mathlib.Omega.{arith}
 use lib.Dec.{eqb, leb, ltb}
 use lib.ListN.{length}
 use borrow.Author.Tests.{eqb-true, leb-true, ltb-true}
+use Rattle.std.specs.Prelude.{Some}
 use Rattle.records.specs.Stages.{every}
 use Rattle.records.specs.Select.{keep, count}
 use Rattle.records.proofs.Tests.{both_left, both_right, every_both, every-keep}
 use Rattle.records.proofs.Counts.{count_append, count_map, count-keep, count_where, count-apart, count_most}
 use Rattle.item.specs.Items.{Fields, ranged, hole, end}
 use Rattle.table.specs.declared.Row.{Row}
-use Rattle.table.specs.declared.Found.TheVariants.{At}
 use Rattle.table.specs.Rows.{find}
 use Rattle.request.specs.declared.Volume.{Volume}
 use Rattle.request.specs.declared.File.{File}
@@ -207,7 +207,7 @@ module _ (v : Volume) (dst src : File) (own : Bool) (span : CloneRange) (before 
       dropped-number = drops-number start gone ∙ drops-counted at
 
       abbrev counted : Type 0
-      counted = 0 < naming start before + others → (k : ℕ) × (row : Row) × (find start rs ≡ At k row) × (row.references ≡ naming start before + others)
+      counted = 0 < naming start before + others → (k : ℕ) × (row : Row) × (find start rs ≡ Some (k, row)) × (row.references ≡ naming start before + others)
 
       pub released-only : counted → 0 < count at p.releases → (0 < naming start before + others) × (naming start now + others ≡ 0)
       released-only true' =

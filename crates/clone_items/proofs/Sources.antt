@@ -7,13 +7,13 @@ use native.Mathlib.Omega.{arith}
 use lib.Dec.{eqb, ltb}
 use lib.ListN.{length, drop}
 use borrow.Author.Tests.{ltb-true, eq-eqb, ne_eqb, le-leb, lt-leb}
+use Rattle.std.specs.Prelude.{Some, None}
 use Rattle.records.specs.Stages.{whenever, unless, first, first_of, every}
 use Rattle.records.proofs.Tests.{both_left, both_right, implied, first_stop, first_go, first_last, every-at}
 use Rattle.item.specs.declared.Item.{Item}
 use Rattle.item.specs.Items.{Fields, fields, items, item_of, windowed, ranged, hole, end}
 use Rattle.item.proofs.Laws.{item-decode, items_at, items-length}
 use Rattle.table.specs.declared.Row.{Row}
-use Rattle.table.specs.declared.Found.TheVariants.{At, Missing}
 use Rattle.table.specs.Rows.{find}
 use Rattle.table.proofs.Laws.{with_none, with_row_lem}
 use Rattle.lists.specs.Lists.{range_sound}
@@ -68,10 +68,10 @@ module _ (rs : List Row) (f : Fields) (start : ℕ) (e : start ≡ f.extent_star
   abbrev due : Row → ℕ
   due row = first_of (unless (window_sound f row) 17 ∷ unless (eqb row.keyed 0) 15 ∷ [])
 
-  pub copy_missing : Missing ≡ find start rs → 14 ≡ copy_refusal rs f
+  pub copy_missing : None ≡ find start rs → 14 ≡ copy_refusal rs f
   copy_missing h = with_none f.extent_start rs due (rw e at h)
 
-  pub copy_found : (k : ℕ) (row : Row) (t : Bool) (x y why : ℕ) → At k row ≡ find start rs → t ≡ window_sound f row → x ≡ unless t 17 → y ≡ unless (eqb row.keyed 0) 15 → why ≡ first x y → why ≡ copy_refusal rs f
+  pub copy_found : (k : ℕ) (row : Row) (t : Bool) (x y why : ℕ) → Some (k, row) ≡ find start rs → t ≡ window_sound f row → x ≡ unless t 17 → y ≡ unless (eqb row.keyed 0) 15 → why ≡ first x y → why ≡ copy_refusal rs f
   unfolding first_of
   copy_found k row t x y why h pt px py p =
       let told : why ≡ due row = rw (p, px, py, pt, first_last) refl in

@@ -10,7 +10,6 @@ ghost use Rattle.clone_items.specs.Raw.{InFiles, Copyable, range_kept, copy_refu
 
 use item::Item;
 use records::{both, first, refusal, smaller, sum_past, unless, whenever};
-use table::Found;
 
 // What is copied: `span` bytes from offset `from` of the source to offset `to` of the file of this number.
 #[derive(Clone, Copy)]
@@ -63,7 +62,7 @@ fn copy_refusal(table: &[u64], item: Item) -> u8
     requires { table_kept (rows table.now) ≡ true }
     ensures { result ≡ copy_refusal (rows table.now) (fields item) }
 {
-    let Found::At(_, row) = table::find_row(table, item.extent_start()) else {
+    let Some((_, row)) = table::find_row(table, item.extent_start()) else {
         return refusal::NO_ROW;
     };
     first(

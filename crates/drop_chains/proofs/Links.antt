@@ -10,13 +10,13 @@ use lib.Dec.{eqb}
 use lib.ListN.{length, get_or, drop, set, length-set, drop_of_length-le, replicate, length-replicate, get_or-replicate}
 use lib.Seq.{drop-cons, get_or-set_same, get_or-set_other}
 use borrow.Author.Tests.{eq-eqb, ne_eqb}
+use Rattle.std.specs.Prelude.{Some, None}
 use Rattle.records.specs.Select.{keep}
 use Rattle.records.proofs.Loops.{rest, rest_cons, rest_nil}
 use Rattle.records.proofs.Picks.{keep-keep}
 use Rattle.item.specs.Items.{Fields, items}
 use Rattle.item.proofs.Laws.{items-length}
 use Rattle.table.specs.declared.Row.{Row}
-use Rattle.table.specs.declared.Found.TheVariants.{At, Missing}
 use Rattle.table.specs.Rows.{row_of, rows, table_kept, find}
 use Rattle.table.proofs.Laws.{kept_rising, found_below, found_row, found_start, missing-none, rows_at, rows-length, rows-rest}
 use Rattle.cut_def.specs.Refs.{Ref}
@@ -32,7 +32,7 @@ use Rattle.drop_chains.proofs.Walks.{lead_yes, lead_no, lead_nil, lead_none, cha
 -- ---- which row a drop is of
 
 module _ (dropped : Fields → Bool) (rs : List Row) (kept : table_kept rs ≡ true) (d : InLeaf) (start : ℕ) (e : start ≡ d.item.extent_start) where
-  module _ (k : ℕ) (row : Row) (h : At k row ≡ find start rs) where
+  module _ (k : ℕ) (row : Row) (h : Some (k, row) ≡ find start rs) where
     pub found_in : k < length rs
     found_in = found_below rs start k row (sym h)
 
@@ -51,7 +51,7 @@ module _ (dropped : Fields → Bool) (rs : List Row) (kept : table_kept rs ≡ t
         ]) in
         rw q (and-false (dropped d.item))
 
-  pub of_none : Missing ≡ find start rs → (y : ℕ) (x : Row) → y < length rs → drop_at dropped (get_or rs y x).start d ≡ false
+  pub of_none : None ≡ find start rs → (y : ℕ) (x : Row) → y < length rs → drop_at dropped (get_or rs y x).start d ≡ false
   of_none h y x l =
       let q : eqb d.item.extent_start (get_or rs y x).start ≡ false = ne_eqb d.item.extent_start (get_or rs y x).start (λ z. missing-none rs start (sym h) y x l (sym z ∙ sym e)) in
       rw q (and-false (dropped d.item))
@@ -91,7 +91,7 @@ module _
 
   -- a drop of row r, put before its chain
   module _
-      (kept : table_kept rs ≡ true) (start : ℕ) (p : start ≡ d.item.extent_start) (r : ℕ) (row : Row) (f : At r row ≡ find start rs)
+      (kept : table_kept rs ≡ true) (start : ℕ) (p : start ≡ d.item.extent_start) (r : ℕ) (row : Row) (f : Some (r, row) ≡ find start rs)
       (t : Bool) (q : t ≡ dropped d.item) (z : t ≡ true) where
     r_in : r < length rs
     r_in = found_in dropped rs kept d start p r row f

@@ -16,7 +16,6 @@ ghost use Rattle.drop_chains.specs.Links.{wider, drops_by, Linked};
 
 use item::Item;
 use records::both;
-use table::Found;
 
 // A number of the array.
 pub fn wide(x: u32) -> usize
@@ -151,7 +150,7 @@ pub fn link_item(
         return range;
     }
     let item = item::item_at(list, i);
-    let Found::At(k, _) = table::find_row(table, item.extent_start()) else {
+    let Some((k, _)) = table::find_row(table, item.extent_start()) else {
         return range;
     };
     nexts[i] = heads[k];

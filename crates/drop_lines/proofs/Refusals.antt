@@ -7,12 +7,12 @@ use native.Mathlib.Omega.{arith}
 use lib.Dec.{eqb, ltb}
 use lib.ListN.{length, drop}
 use borrow.Author.Tests.{eqb-true, ne_eqb, ltb-true, ltb-false, lt-ltb, le-ltb}
+use Rattle.std.specs.Prelude.{Some, None}
 use Rattle.records.specs.Select.{keep}
 use Rattle.records.specs.Stages.{unless}
 use Rattle.records.proofs.Loops.{rest, rest_cons, rest_nil}
 use Rattle.item.specs.Items.{Fields, decode}
 use Rattle.table.specs.declared.Row.{Row}
-use Rattle.table.specs.declared.Found.TheVariants.{At, Missing}
 use Rattle.table.specs.Rows.{find}
 use Rattle.table.specs.Windows.{window_sound}
 use Rattle.table.proofs.Laws.{with_none, with_row_lem}
@@ -58,10 +58,10 @@ earlier-none a = go (eqb a.number 0) refl
 
 -- one drop, from what the search and the window's test say
 module _ (rows : List Row) (f : Fields) (start : ℕ) (e : start ≡ f.extent_start) where
-  pub drop-missing : Missing ≡ find start rows → 14 ≡ drop_refusal rows f
+  pub drop-missing : None ≡ find start rows → 14 ≡ drop_refusal rows f
   drop-missing h = with_none f.extent_start rows (λ (row : Row). unless (window_sound f row) 17) (rw e at h)
 
-  pub drop_found : (k : ℕ) (row : Row) (t : Bool) → At k row ≡ find start rows → t ≡ window_sound f row → unless t 17 ≡ drop_refusal rows f
+  pub drop_found : (k : ℕ) (row : Row) (t : Bool) → Some (k, row) ≡ find start rows → t ≡ window_sound f row → unless t 17 ≡ drop_refusal rows f
   drop_found k row t h p = rw p (with_row_lem f.extent_start rows k row (λ (row : Row). unless (window_sound f row) 17) (rw e at h))
 
 module _ (c : Cut) (rows : List Row) where

@@ -17,7 +17,7 @@ ghost use Rattle.drop_chains.specs.Links.{Blank, Linked};
 use drop_chains::RowRange;
 use item::Item;
 use records::{both, either, refusal, unless};
-use table::{Found, Row};
+use table::Row;
 
 // The range that is cut, and the starts of two extents that are written in place (0: none), whose items are compared
 // instead of dropped.
@@ -54,7 +54,7 @@ fn drop_refusal(table: &[u64], item: Item) -> u8
     requires { table_kept (rows table.now) ≡ true }
     ensures { result ≡ drop_refusal (rows table.now) (fields item) }
 {
-    let Found::At(_, row) = table::find_row(table, item.extent_start()) else {
+    let Some((_, row)) = table::find_row(table, item.extent_start()) else {
         return refusal::NO_ROW;
     };
     unless(table::window_sound(item, row), refusal::WINDOW)

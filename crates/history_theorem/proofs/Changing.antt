@@ -5,13 +5,12 @@ use mathlib.Core.Bool.{Bool, true, not, false≢true}
 use mathlib.Core.List.{List, ◌++◌, Memᴰ}
 use Prim.Native.Nat.{ℕ, ◌+◌, ◌%◌, ◌<◌}
 use native.Mathlib.Omega.{arith}
+use Rattle.std.specs.Prelude.{Some, None}
 use Rattle.records.specs.Select.{count}
 use Rattle.records.proofs.Lists.{every_mem, at_every}
 use Rattle.item.specs.Items.{Fields}
 use Rattle.table.specs.declared.Row.{Row}
-use Rattle.table.specs.Rows.{find}
-use Rattle.table.specs.declared.Found.{Found}
-use Rattle.table.specs.declared.Found.TheVariants.{At, Missing}
+use Rattle.table.specs.Rows.{Found, find}
 use Rattle.lists.proofs.Laws.{well_kept_lem}
 use Rattle.request.proofs.Stages.{Accepted}
 use Rattle.cut_def.specs.Mappings.{mapping}
@@ -82,14 +81,14 @@ module _ (sector : ℕ) (s : State) (l : Lent) (places : List ℕ) (h : Changed 
   rest start = others l.number start s.files
 
   -- the extent's row, by what this file's items and the others' name
-  row : TrueTable s → (start : ℕ) → 0 < naming start (before g c) + rest start → (k : ℕ) × (r : Row) × (find start s.rows ≡ At k r) × (r.references ≡ naming start (before g c) + rest start)
+  row : TrueTable s → (start : ℕ) → 0 < naming start (before g c) + rest start → (k : ℕ) × (r : Row) × (find start s.rows ≡ Some (k, r)) × (r.references ≡ naming start (before g c) + rest start)
   row t start = rw items (true_row s l.number start t)
 
-  not_found : (o : Found) → not (is_found o) ≡ true → o ≡ Missing
-  not_found (At k r) e = absurd (false≢true e)
-  not_found Missing e = refl
+  not_found : (o : Found) → not (is_found o) ≡ true → o ≡ None
+  not_found (Some (k, r)) e = absurd (false≢true e)
+  not_found None e = refl
 
-  new-missing : (a : Add) → Memᴰ a planned.adds → find a.start s.rows ≡ Missing
+  new-missing : (a : Add) → Memᴰ a planned.adds → find a.start s.rows ≡ None
   new-missing a m =
       let first : Add = record { start = 0; length = 0; key = 0 } in
       let t : Add → Bool = λ a. not (is_found (find a.start s.rows)) in

@@ -7,14 +7,13 @@ use native.Mathlib.Omega.{arith}
 use native.Mathlib.Decide.{ℕ_discrete, dec_lt}
 use lib.Dec.{eqb}
 use borrow.Author.Tests.{eqb-true, eqb-false}
+use Rattle.std.specs.Prelude.{Some, None}
 use Rattle.records.specs.Stages.{every}
 use Rattle.records.proofs.Tests.{both_left, both_right}
 use Rattle.records.proofs.Counts.{count-some}
 use Rattle.item.specs.Items.{Fields}
-use Rattle.table.specs.Rows.{find}
+use Rattle.table.specs.Rows.{Found, find}
 use Rattle.table.specs.declared.Row.{Row}
-use Rattle.table.specs.declared.Found.{Found}
-use Rattle.table.specs.declared.Found.TheVariants.{At, Missing}
 use Rattle.lists.specs.Lists.{list_kept, well_kept}
 use Rattle.request.specs.Answers.{Outcome, plan, nothing, refused}
 use Rattle.cut_def.specs.Refs.{Ref, same_ref, referring}
@@ -62,7 +61,7 @@ step_cases sector s c P stays moves = go (answer_of sector s c) refl
 
 -- ---- a plan applied
 
-unfound : {o : Found} {k : ℕ} {row : Row} → o ≡ At k row → o ≡ Missing → ⊥
+unfound : {o : Found} {k : ℕ} {row : Row} → o ≡ Some (k, row) → o ≡ None → ⊥
 unfound h m = let z : ◌≡◌ {A = ℕ} 0 1 = cc in omega arith
 
 module _ (sector : ℕ) (s : State) (c : Call) (p : Plan) (law : Lawful sector s c p) (accepted : AcceptedOn sector s c p) where
@@ -105,7 +104,7 @@ module _ (sector : ℕ) (s : State) (c : Call) (p : Plan) (law : Lawful sector s
       new-counted : 0 < adds_at start p → Counted start (total_now s c p start) (after_plan s c p).rows
       new-counted a =
           let x = count-some (λ (x : Add). eqb x.start start) p.adds a in
-          let missing : find start s.rows ≡ Missing = rw (eqb-true x.0.start start x.2) at (law.fresh x.0 x.1) in
+          let missing : find start s.rows ≡ None = rw (eqb-true x.0.start start x.2) at (law.fresh x.0 x.1) in
           let before : total start s.files ≡ 0 = elim (dec_lt 0 (total start s.files)) [ yes b ↦ absurd (unfound (t start b).2 missing) | no b ↦ omega arith ] in
           let m = added-counted accepted start a in
           (m.0, m.1, m.2, omega (arith, m.3, plan-total start, adds-once accepted start, missing-counts accepted start missing))

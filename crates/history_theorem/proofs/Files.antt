@@ -8,14 +8,13 @@ use native.Mathlib.Decide.{dec_lt}
 use lib.Dec.{eqb, leb}
 use lib.ListN.{length}
 use borrow.Author.Tests.{eqb-true, eqb-false, leb-true, eq-eqb, ne_eqb, not-true}
+use Rattle.std.specs.Prelude.{Some, None}
 use Rattle.records.specs.Stages.{every}
 use Rattle.records.proofs.Tests.{both, both_left, both_right}
 use Rattle.records.specs.Select.{count}
 use Rattle.item.specs.Items.{Fields}
 use Rattle.table.specs.declared.Row.{Row}
-use Rattle.table.specs.declared.Found.{Found}
-use Rattle.table.specs.declared.Found.TheVariants.{At, Missing}
-use Rattle.table.specs.Rows.{find, with_row}
+use Rattle.table.specs.Rows.{Found, find, with_row}
 use Rattle.lists.specs.Lists.{shared_sound}
 use Rattle.ref_def.proofs.Drops.{is_found}
 use Rattle.apply_def.specs.Apply.{row_missing}
@@ -119,7 +118,7 @@ with_others_now n start is fs = omega (arith, total-one n start fs, total_with n
 
 -- a true table, by one file and the others
 pub true_row : (s : State) (n start : ℕ) → TrueTable s → 0 < naming start (list_of n s.files) + others n start s.files
-    → (k : ℕ) × (row : Row) × (find start s.rows ≡ At k row) × (row.references ≡ naming start (list_of n s.files) + others n start s.files)
+    → (k : ℕ) × (row : Row) × (find start s.rows ≡ Some (k, row)) × (row.references ≡ naming start (list_of n s.files) + others n start s.files)
 true_row s n start t h = let x = t start (omega (arith, with_others n start s.files)) in (x.0, x.1, x.2, x.3 ∙ sym (with_others n start s.files))
 
 -- a line of an extent that has a row is not missing it
@@ -127,5 +126,5 @@ pub missing-none : (rs : List Row) (r : Ref) → is_found (find r.start rs) ≡ 
 missing-none rs r h = go (find r.start rs) h
   where
     go : (o : Found) → is_found o ≡ true → with_row o (λ (row : Row). 0) ≡ 0
-    go (At k row) h = refl
-    go Missing h = absurd (false≢true h)
+    go (Some (k, row)) h = refl
+    go None h = absurd (false≢true h)

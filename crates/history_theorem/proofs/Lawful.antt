@@ -4,10 +4,10 @@ use mathlib.Core.Bool.{Bool, true}
 use mathlib.Core.List.{List, Memᴰ}
 use mathlib.Core.Path.{◌≡◌}
 use Prim.Native.Nat.{ℕ, ◌+◌, ◌<◌}
+use Rattle.std.specs.Prelude.{None}
 use Rattle.records.specs.Select.{count}
 use Rattle.item.specs.Items.{Fields}
 use Rattle.table.specs.Rows.{find}
-use Rattle.table.specs.declared.Found.TheVariants.{Missing}
 use Rattle.cut_def.specs.Mappings.{mapping}
 use Rattle.cut_def.specs.Pieces.{items_of}
 use Rattle.cut_def.specs.Refs.{Ref, ref_passes}
@@ -38,7 +38,7 @@ pub record Lawful (sector : ℕ) (s : State) (c : Call) (p : Plan) : Type 0 wher
       → count (ref_passes q) (items_now s c p) + (count q p.unrefs + count q p.releases)
       ≡ count (ref_passes q) (items_before s c) + (count q p.shares + count (λ (a : Add). q (add_ref a)) p.adds)
   -- a new extent has no row yet
-  pub fresh : (a : Add) → Memᴰ a p.adds → find a.start s.rows ≡ Missing
+  pub fresh : (a : Add) → Memᴰ a p.adds → find a.start s.rows ≡ None
   -- what is shared was named before
   pub shared : (start : ℕ) → 0 < lines_at start p.shares → 0 < total start s.files
   -- with a true table and no leaf marked shared: released exactly when the total falls to zero

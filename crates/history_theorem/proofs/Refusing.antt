@@ -8,10 +8,10 @@ use native.Mathlib.Omega.{arith}
 use native.Mathlib.Decide.{dec_lt}
 use lib.Dec.{eqb}
 use borrow.Author.Tests.{le-leb, eqb-true}
+use Rattle.std.specs.Prelude.{Some, None}
 use Rattle.records.specs.Stages.{every}
 use Rattle.records.proofs.Counts.{count-some}
 use Rattle.table.specs.declared.Row.{Row}
-use Rattle.table.specs.declared.Found.TheVariants.{At, Missing}
 use Rattle.table.specs.Rows.{table_kept, find}
 use Rattle.cut_def.specs.Refs.{Ref}
 use Rattle.plan_def.specs.Plans.{Plan, Add}
@@ -25,19 +25,19 @@ use Rattle.history_theorem.proofs.Files.{total-one}
 
 module _ (sector : ℕ) (s : State) (c : Call) (p : Plan) (law : Lawful sector s c p) (t : TrueTable s) (kept : table_kept s.rows ≡ true) where
   -- an extent with a row has no add
-  no_add : (start k : ℕ) (row : Row) → find start s.rows ≡ At k row → adds_at start p ≡ 0
+  no_add : (start k : ℕ) (row : Row) → find start s.rows ≡ Some (k, row) → adds_at start p ≡ 0
   no_add start k row e = go (dec_lt 0 (adds_at start p))
     where
       go : Dec (0 < adds_at start p) → adds_at start p ≡ 0
       go (no n) = omega arith
       go (yes n) =
           let a = count-some (λ (a : Add). eqb a.start start) p.adds n in
-          let m : find start s.rows ≡ Missing = rw (eqb-true a.0.start start a.2) at (law.fresh a.0 a.1) in
+          let m : find start s.rows ≡ None = rw (eqb-true a.0.start start a.2) at (law.fresh a.0 a.1) in
           let z : ◌≡◌ {A = ℕ} 0 1 = cc in
           absurd (omega arith)
 
   -- no count falls below zero
-  row_above : (k : ℕ) (row : Row) → find row.start s.rows ≡ At k row → lost p row.start ≤ row.references + gained p row.start
+  row_above : (k : ℕ) (row : Row) → find row.start s.rows ≡ Some (k, row) → lost p row.start ≤ row.references + gained p row.start
   row_above k row e =
       let st : ℕ = row.start in
       let b = law.balance (λ (q : Ref). eqb q.start st) in

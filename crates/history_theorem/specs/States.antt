@@ -1,8 +1,7 @@
 -- Demand 3 "runs on the table and one list a file".
-use Rattle.std.specs.Prelude.{cond, List, [], ◌∷◌, ◌≡◌, ℕ, ◌+◌, ◌<◌, eqb}
+use Rattle.std.specs.Prelude.{cond, List, [], ◌∷◌, ◌≡◌, ℕ, ◌+◌, ◌<◌, eqb, Some}
 use Rattle.item.specs.Items.{Fields}
 use Rattle.table.specs.declared.Row.{Row}
-use Rattle.table.specs.declared.Found.TheVariants.{At}
 use Rattle.table.specs.Rows.{find}
 use Rattle.cut_def.specs.Refs.{naming}
 
@@ -31,4 +30,4 @@ total start (f ∷ fs) = naming start f.items + total start fs
 
 -- "the table started with every named extent and its true total"
 abbrev pub TrueTable : State → Type 0
-TrueTable s = (start : ℕ) → 0 < total start s.files → (k : ℕ) × (row : Row) × (find start s.rows ≡ At k row) × (row.references ≡ total start s.files)
+TrueTable s = (start : ℕ) → 0 < total start s.files → (k : ℕ) × (row : Row) × (find start s.rows ≡ Some (k, row)) × (row.references ≡ total start s.files)

@@ -5,12 +5,11 @@ use mathlib.Core.List.{List, [], ◌∷◌}
 use mathlib.Core.Option.{Option, none, some}
 use Prim.Native.Nat.{ℕ, zero, suc}
 use lib.Dec.{eqb}
+use Rattle.std.specs.Prelude.{Some, None}
 use Rattle.records.specs.Stages.{first, first_of, stage}
 use Rattle.item.specs.Items.{Fields}
 use Rattle.table.specs.declared.Row.{Row}
-use Rattle.table.specs.declared.Found.{Found}
-use Rattle.table.specs.declared.Found.TheVariants.{At, Missing}
-use Rattle.table.specs.Rows.{with_row}
+use Rattle.table.specs.Rows.{Found, with_row}
 use Rattle.request.specs.declared.Volume.{Volume}
 use Rattle.request.specs.declared.File.{File}
 use Rattle.request.specs.declared.Range.{Range}
@@ -44,8 +43,8 @@ stage-other f p [] = refl
 stage-other f p (a ∷ l) = first-other (f a) (stage f l) (p a) (stage-other f p l)
 
 pub row_other : (found : Found) (f : Row → ℕ) → ((row : Row) → Other (f row)) → Other (with_row found f)
-row_other (At k row) f p = p row
-row_other Missing f p = refl
+row_other (Some (k, row)) f p = p row
+row_other None f p = refl
 
 pub held-other : (o : Option InLeaf) (f : InLeaf → ℕ) → ((h : InLeaf) → Other (f h)) → Other (when_held o 0 f)
 held-other none f p = refl

@@ -8,10 +8,10 @@ use native.Mathlib.Omega.{arith}
 use lib.Dec.{eqb, leb, ltb}
 use lib.ListN.{length, get_or}
 use borrow.Author.Tests.{ltb-true, leb-true, eqb-true, eqb-false, not-true}
+use Rattle.std.specs.Prelude.{None}
 use Rattle.records.specs.Stages.{every, pairs}
 use Rattle.records.proofs.Tests.{both_left, both_right, either, every-at, pairs-at}
 use Rattle.table.specs.declared.Row.{Row}
-use Rattle.table.specs.declared.Found.TheVariants.{Missing}
 use Rattle.table.specs.Rows.{find}
 use Rattle.table.proofs.Laws.{none-missing}
 use Rattle.plan_def.specs.Plans.{Add}
@@ -118,7 +118,7 @@ module _ (rows : List Row) (ps : List ℕ) (ws : List Wanted) (h : places_sound 
         clear-starts (get_or ps k 0) (get_or ws k w).length (get_or rows i r).start (get_or rows i r).length (s.apart i r m) (some k l) full (sym e)
 
     -- so none is found there
-    pub place_missing : (k : ℕ) (r : Row) → k < length ps → ((i : ℕ) → i < length rows → 0 < (get_or rows i r).length) → find (get_or ps k 0) rows ≡ Missing
+    pub place_missing : (k : ℕ) (r : Row) → k < length ps → ((i : ℕ) → i < length rows → 0 < (get_or rows i r).length) → find (get_or ps k 0) rows ≡ None
     place_missing k r l full = none-missing rows 0 (get_or ps k 0) r (λ i m. place_no_row k i r l m (full i m))
 
     -- no two places are alike

@@ -2,4 +2,5 @@ pub mod Lent
 pub mod Records
 pub mod Stages
 pub mod Select
+pub mod Refusals
 pub mod Raw

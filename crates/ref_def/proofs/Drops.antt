@@ -7,15 +7,14 @@ use native.Mathlib.Omega.{arith}
 use lib.Dec.{eqb, ltb}
 use lib.ListN.{length}
 use borrow.Author.Tests.{eqb-true, eqb-false, eq-eqb, ne_eqb, ltb-true, ltb-false, lt-ltb, le-ltb}
+use Rattle.std.specs.Prelude.{Some, None}
 use Rattle.records.specs.Select.{any, count}
 use Rattle.records.specs.Stages.{unless, every}
 use Rattle.records.proofs.Tests.{both, both_left, both_right, either_right, implied, imply, every_map, every-keep, unless-zero}
 use Rattle.records.proofs.Counts.{count_append, count_map, count-keep, count_same, keep-length, count_either, count-given, count_never}
 use Rattle.item.specs.Items.{Fields}
 use Rattle.table.specs.declared.Row.{Row}
-use Rattle.table.specs.declared.Found.{Found}
-use Rattle.table.specs.declared.Found.TheVariants.{At, Missing}
-use Rattle.table.specs.Rows.{table_kept, find_from, find, with_row}
+use Rattle.table.specs.Rows.{Found, table_kept, find_from, find, with_row}
 use Rattle.table.proofs.Laws.{kept-tail, kept_rising, none-missing, found_start}
 use Rattle.cut_def.specs.Refs.{Ref, ref_of}
 use Rattle.ref_def.specs.Drops.{InLeaf, in_leaves, drop_refusal, Due, earlier, due_of, drops_refusal, drops_of, lines, released, releases, unrefs}
@@ -52,15 +51,15 @@ leaves-length (f ∷ fs) (b ∷ bs) h = ap suc (leaves-length fs bs (omega arith
 
 module _ (rows : List Row) (f : Fields) where
   -- a drop is accepted if it has a row and lies inside it
-  pub drop_row : drop_refusal rows f ≡ 0 → (k : ℕ) × (row : Row) × (find f.extent_start rows ≡ At k row) × (window_sound f row ≡ true)
+  pub drop_row : drop_refusal rows f ≡ 0 → (k : ℕ) × (row : Row) × (find f.extent_start rows ≡ Some (k, row)) × (window_sound f row ≡ true)
   drop_row h = go (find f.extent_start rows) refl h
     where
       go : (o : Found) → find f.extent_start rows ≡ o → with_row o (λ (row : Row). unless (window_sound f row) 17) ≡ 0
-          → (k : ℕ) × (row : Row) × (find f.extent_start rows ≡ At k row) × (window_sound f row ≡ true)
-      go (At k row) e h = (k, row, e, unless-zero (window_sound f row) 17 h (λ z. omega arith))
-      go Missing e h = absurd (omega arith)
+          → (k : ℕ) × (row : Row) × (find f.extent_start rows ≡ Some (k, row)) × (window_sound f row ≡ true)
+      go (Some (k, row)) e h = (k, row, e, unless-zero (window_sound f row) 17 h (λ z. omega arith))
+      go None e h = absurd (omega arith)
 
-  pub row_drop : (k : ℕ) (row : Row) → find f.extent_start rows ≡ At k row → window_sound f row ≡ true → drop_refusal rows f ≡ 0
+  pub row_drop : (k : ℕ) (row : Row) → find f.extent_start rows ≡ Some (k, row) → window_sound f row ≡ true → drop_refusal rows f ≡ 0
   row_drop k row e h = rw e (rw h refl)
 
 earlier-zero : (d e : Due) → eqb (earlier d e).number 0 ≡ (eqb d.number 0 && eqb e.number 0)
@@ -181,13 +180,13 @@ all_lines p ds (r ∷ rs) =
     go false = omega arith
 
 -- no later row of a kept table starts where an earlier one does
-later_missing : (r : Row) (rs : List Row) → table_kept (r ∷ rs) ≡ true → (k s : ℕ) → r.start ≡ s → find_from k s rs ≡ Missing
+later_missing : (r : Row) (rs : List Row) → table_kept (r ∷ rs) ≡ true → (k s : ℕ) → r.start ≡ s → find_from k s rs ≡ None
 later_missing r rs h k s e = none-missing rs k s r (λ i l x. omega (arith, kept_rising (r ∷ rs) h 0 (suc i) r (omega arith) (omega arith)))
 
 -- a row was found
 abbrev pub is_found : Found → Bool
-is_found (At k r) = true
-is_found Missing = false
+is_found (Some (k, r)) = true
+is_found None = false
 
 -- each drop whose extent has a row gives one line
 rows-lines : (p : Ref → Bool) (ds : List InLeaf) (rows : List Row) (k : ℕ) → table_kept rows ≡ true
@@ -214,7 +213,7 @@ rows-lines p ds (r ∷ rs) k h =
     one : (d : InLeaf) → ((here d || there d) && passes d) ≡ (is_found (find_from k d.item.extent_start (r ∷ rs)) && passes d)
     one d = rw (eqb_swap d.item.extent_start r.start) (go (eqb r.start d.item.extent_start))
       where
-        go : (b : Bool) → ((b || there d) && passes d) ≡ (is_found (cond b (At k r) (find_from (k + 1) d.item.extent_start rs)) && passes d)
+        go : (b : Bool) → ((b || there d) && passes d) ≡ (is_found (cond b (Some (k, r)) (find_from (k + 1) d.item.extent_start rs)) && passes d)
         go true = refl
         go false = refl
 
@@ -235,8 +234,8 @@ starts s q = eqb q.start s
 
 -- the number of the row that was found, or 0
 abbrev at_row : Found → (Row → ℕ) → ℕ
-at_row (At k r) f = f r
-at_row Missing f = 0
+at_row (Some (k, r)) f = f r
+at_row None f = 0
 
 -- where rows that start elsewhere give no line, the row of that start gives all
 row_lines_lem : (s : ℕ) (g : Row → List Ref) → ((row : Row) → (row.start ≡ s → ⊥) → count (starts s) (g row) ≡ 0) → (rows : List Row) (k : ℕ) → table_kept rows ≡ true
@@ -250,7 +249,7 @@ row_lines_lem s g none (r ∷ rs) k h =
     number : Row → ℕ
     number row = count (starts s) (g row)
 
-    go : (b : Bool) → eqb r.start s ≡ b → number r + at_row (find_from (k + 1) s rs) number ≡ at_row (cond b (At k r) (find_from (k + 1) s rs)) number
+    go : (b : Bool) → eqb r.start s ≡ b → number r + at_row (find_from (k + 1) s rs) number ≡ at_row (cond b (Some (k, r)) (find_from (k + 1) s rs)) number
     go true e = rw (later_missing r rs h (k + 1) s (eqb-true r.start s e)) (omega arith)
     go false e = omega (arith, none r (eqb-false r.start s e))
 
@@ -298,40 +297,40 @@ module _ (s : ℕ) (ds : List InLeaf) where
     unref_lines = row_lines_lem s (λ (row : Row). cond (released ds row) [] (lines row.start ds)) (λ row n. (none-given (released ds row) row n).1) rows 0 kept
 
     -- an extent's drops are all releases or all unrefs
-    pub release_number : (k : ℕ) (row : Row) → find s rows ≡ At k row → count (λ (q : Ref). eqb q.start s) (releases rows ds) ≡ cond (released ds row) (length (drops_of s ds)) 0
+    pub release_number : (k : ℕ) (row : Row) → find s rows ≡ Some (k, row) → count (λ (q : Ref). eqb q.start s) (releases rows ds) ≡ cond (released ds row) (length (drops_of s ds)) 0
     release_number k row e = release_lines_lem ∙ rw e (all_given (released ds row) row (found_start rows s k row e)).0
 
-    pub unref_number : (k : ℕ) (row : Row) → find s rows ≡ At k row → count (λ (q : Ref). eqb q.start s) (unrefs rows ds) ≡ cond (released ds row) 0 (length (drops_of s ds))
+    pub unref_number : (k : ℕ) (row : Row) → find s rows ≡ Some (k, row) → count (λ (q : Ref). eqb q.start s) (unrefs rows ds) ≡ cond (released ds row) 0 (length (drops_of s ds))
     unref_number k row e = unref_lines ∙ rw e (all_given (released ds row) row (found_start rows s k row e)).1
 
     -- an extent without a row has no line
-    pub release_missing : find s rows ≡ Missing → count (λ (q : Ref). eqb q.start s) (releases rows ds) ≡ 0
+    pub release_missing : find s rows ≡ None → count (λ (q : Ref). eqb q.start s) (releases rows ds) ≡ 0
     release_missing e = release_lines_lem ∙ rw e refl
 
-    pub unref_missing : find s rows ≡ Missing → count (λ (q : Ref). eqb q.start s) (unrefs rows ds) ≡ 0
+    pub unref_missing : find s rows ≡ None → count (λ (q : Ref). eqb q.start s) (unrefs rows ds) ≡ 0
     unref_missing e = unref_lines ∙ rw e refl
 
 -- ---- released exactly when all references are dropped
 
 module _ (s : ℕ) (ds : List InLeaf) (rows : List Row) (kept : table_kept rows ≡ true) where
   -- a release line: the row's references are its drops, of which there is one
-  pub line-drops : 0 < count (λ (q : Ref). eqb q.start s) (releases rows ds) → (k : ℕ) × (row : Row) × (find s rows ≡ At k row) × (row.references ≡ length (drops_of s ds)) × (0 < length (drops_of s ds))
+  pub line-drops : 0 < count (λ (q : Ref). eqb q.start s) (releases rows ds) → (k : ℕ) × (row : Row) × (find s rows ≡ Some (k, row)) × (row.references ≡ length (drops_of s ds)) × (0 < length (drops_of s ds))
   line-drops h = go (find s rows) refl
     where
       number : (b : Bool) (row : Row) → released ds row ≡ b → 0 < cond b (length (drops_of s ds)) 0 → (released ds row ≡ true) × (0 < length (drops_of s ds))
       number true row e p = (e, p)
       number false row e p = absurd (omega arith)
 
-      go : (o : Found) → find s rows ≡ o → (k : ℕ) × (row : Row) × (find s rows ≡ At k row) × (row.references ≡ length (drops_of s ds)) × (0 < length (drops_of s ds))
-      go Missing e = absurd (omega (arith, release_missing s ds rows kept e))
-      go (At k row) e =
+      go : (o : Found) → find s rows ≡ o → (k : ℕ) × (row : Row) × (find s rows ≡ Some (k, row)) × (row.references ≡ length (drops_of s ds)) × (0 < length (drops_of s ds))
+      go None e = absurd (omega (arith, release_missing s ds rows kept e))
+      go (Some (k, row)) e =
           let p = rw (release_number s ds rows kept k row e) at h in
           let n = number (released ds row) row refl p in
           let t = eqb-true row.references (length (drops_of row.start ds)) (both_left (eqb row.references (length (drops_of row.start ds))) (every (λ (d : InLeaf). eqb d.shared 0) (drops_of row.start ds)) n.0) in
           (k, row, e, rw (found_start rows s k row e) at t, n.1)
 
   -- and the other way round, where no leaf is shared
-  pub drops-line : (k : ℕ) (row : Row) → find s rows ≡ At k row → row.references ≡ length (drops_of s ds) → 0 < length (drops_of s ds) → every (λ (d : InLeaf). eqb d.shared 0) ds ≡ true → 0 < count (λ (q : Ref). eqb q.start s) (releases rows ds)
+  pub drops-line : (k : ℕ) (row : Row) → find s rows ≡ Some (k, row) → row.references ≡ length (drops_of s ds) → 0 < length (drops_of s ds) → every (λ (d : InLeaf). eqb d.shared 0) ds ≡ true → 0 < count (λ (q : Ref). eqb q.start s) (releases rows ds)
   drops-line k row e r p u =
       let q : released ds row ≡ true = rw (found_start rows s k row e) (both (eqb row.references (length (drops_of s ds))) (every (λ (d : InLeaf). eqb d.shared 0) (drops_of s ds)) (eq-eqb row.references (length (drops_of s ds)) r) (every-keep (λ (d : InLeaf). eqb d.shared 0) (λ (d : InLeaf). eqb d.item.extent_start s) ds u)) in
       rw (release_number s ds rows kept k row e, q) p

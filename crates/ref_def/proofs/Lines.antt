@@ -7,14 +7,13 @@ use native.Mathlib.Omega.{arith}
 use lib.Dec.{eqb}
 use lib.ListN.{length, get_or}
 use borrow.Author.Tests.{eqb-true}
+use Rattle.std.specs.Prelude.{Some, None}
 use Rattle.records.specs.Stages.{unless, stage, every}
 use Rattle.records.specs.Select.{keep}
 use Rattle.records.proofs.Tests.{both, both_left, both_right, first_go, stage-zero}
 use Rattle.records.proofs.Lists.{every_flat}
 use Rattle.table.specs.declared.Row.{Row}
-use Rattle.table.specs.declared.Found.{Found}
-use Rattle.table.specs.declared.Found.TheVariants.{At, Missing}
-use Rattle.table.specs.Rows.{table_kept, find, with_row, one_more_reference}
+use Rattle.table.specs.Rows.{Found, table_kept, find, with_row, one_more_reference}
 use Rattle.table.proofs.Laws.{kept_found}
 use Rattle.cut_def.specs.Refs.{Ref, ref_of}
 use Rattle.ref_def.proofs.Drops.{is_found}
@@ -26,8 +25,8 @@ rowed rows r = is_found (find r.start rows)
 
 -- what goes on from a search only with 14 found its row
 pub with_rowed : (o : Found) (f : Row → ℕ) → with_row o f ≡ 0 → is_found o ≡ true
-with_rowed (At k r) f h = refl
-with_rowed Missing f h = absurd (omega arith)
+with_rowed (Some (k, r)) f h = refl
+with_rowed None f h = absurd (omega arith)
 
 -- every row of a kept table is found
 rows-from : (rows : List Row) → table_kept rows ≡ true → (n : ℕ) (ts : List Row) → ((i : ℕ) (e : Row) → i < length ts → (n + i < length rows) × (get_or ts i e ≡ get_or rows (n + i) e)) → every (λ (t : Row). is_found (find t.start rows)) ts ≡ true

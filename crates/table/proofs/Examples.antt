@@ -5,14 +5,13 @@ use mathlib.Core.List.{List, [], ◌∷◌, ◌++◌}
 use Prim.Native.Nat.{ℕ, ◌+◌, ◌-◌, ◌*◌, ◌^◌}
 use lib.Dec.{eqb}
 use lib.ListN.{length}
+use Rattle.std.specs.Prelude.{Some, None}
 use Rattle.records.specs.Records.{chunks, records}
 use Rattle.records.specs.Stages.{unless, every, neighbours}
 use Rattle.table.proofs.Laws.{rows-length}
-use Rattle.table.specs.Rows.{row_of, rows, table_kept, find_from, find, one_more_reference}
+use Rattle.table.specs.Rows.{Found, row_of, rows, table_kept, find_from, find, one_more_reference}
 use Rattle.table.specs.Raw.{table_sized}
 use Rattle.table.specs.Windows.{window_inside}
-use Rattle.table.specs.declared.Found.{Found}
-use Rattle.table.specs.declared.Found.TheVariants.{At, Missing}
 
 -- a row of a table: start, length, keyed (1 reference, made by generation 7)
 abbrev row : ℕ → ℕ → ℕ → List ℕ
@@ -23,8 +22,8 @@ verdict t = unless (table_kept (rows t)) 3
 
 -- a found row, as its number and its length; 999 for none
 abbrev number : Found → ℕ
-number (At k r) = k * 100 + r.length
-number Missing = 999
+number (Some (k, r)) = k * 100 + r.length
+number None = 999
 
 abbrev three : List ℕ
 three = row 10 5 0 ++ row 15 6 1 ++ row 30 8 0

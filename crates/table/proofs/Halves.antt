@@ -6,9 +6,9 @@ use Prim.Native.Nat.{ℕ, ◌+◌, ◌*◌, ◌/◌, ◌<◌, ◌≤◌}
 use native.Mathlib.Omega.{arith}
 use native.Mathlib.Decide.{ℕ_discrete, dec_lt}
 use lib.ListN.{length, get_or, drop}
+use Rattle.std.specs.Prelude.{Some, None}
 use Rattle.table.specs.Rows.{row_of, rows, table_kept, find}
 use Rattle.table.specs.declared.Row.{Row}
-use Rattle.table.specs.declared.Found.TheVariants.{At, Missing}
 use Rattle.table.proofs.Laws.{row_start, rows-length, rows_at, kept_rising, kept_found, none-missing}
 
 -- where row j starts
@@ -53,7 +53,7 @@ module _ (t : List ℕ) (start lo hi : ℕ) (k : table_kept (rows t) ≡ true) (
       }
 
   -- row m starts there
-  pub hit : (r : Row) → m < hi → r ≡ row_of (drop (m * 5) t) → start_at t m ≡ start → At m r ≡ find start (rows t)
+  pub hit : (r : Row) → m < hi → r ≡ row_of (drop (m * 5) t) → start_at t m ≡ start → Some (m, r) ≡ find start (rows t)
   hit r h e s =
       let l : length (rows t) ≡ length t / 5 = rows-length t in
       let q : m < length t / 5 = omega arith in
@@ -61,7 +61,7 @@ module _ (t : List ℕ) (start lo hi : ℕ) (k : table_kept (rows t) ≡ true) (
       sym (rw (start-at t m (row_of []) q, s, rows_at t m (row_of []) q, ← e) at f)
 
   -- no rows are left
-  pub miss : hi ≤ lo → Missing ≡ find start (rows t)
+  pub miss : hi ≤ lo → None ≡ find start (rows t)
   miss h = sym (none-missing (rows t) 0 start (row_of []) (λ j p x.
       let l : length (rows t) ≡ length t / 5 = rows-length t in
       let s : start_at t j ≡ start = sym (start-at t j (row_of []) (omega arith)) ∙ x in

@@ -10,17 +10,16 @@ use lib.Dec.{eqb, leb, ltb}
 use lib.ListN.{length, get_or, drop}
 use lib.Seq.{get_or-drop}
 use borrow.Author.Tests.{ltb-true, leb-true, eqb-true, eqb-false, not-true, lt-ltb, le-leb, eq-eqb, ne_eqb}
+use Rattle.std.specs.Prelude.{Some, None}
 use Rattle.records.specs.Records.{records}
 use Rattle.records.specs.Stages.{unless, first, every, pairs, neighbours}
 use Rattle.records.specs.Raw.{sieve}
 use Rattle.records.proofs.Tests.{both, both_left, both_right, same, every-at, every_map, first_go, first_stop, unless-zero}
 use Rattle.records.proofs.Loops.{rest, rest_all, chunks-length, chunks-at}
-use Rattle.table.specs.Rows.{row_of, rows, row_sound, row_before, table_kept, find_from, find, with_row}
+use Rattle.table.specs.Rows.{Found, row_of, rows, row_sound, row_before, table_kept, find_from, find, with_row}
 use Rattle.table.specs.Raw.{row_at, row_from, row_refusal, row_end}
 use Rattle.table.specs.Windows.{window_inside}
 use Rattle.table.specs.declared.Row.{Row}
-use Rattle.table.specs.declared.Found.{Found}
-use Rattle.table.specs.declared.Found.TheVariants.{At, Missing}
 
 -- ---- the rows of a table
 
@@ -257,17 +256,18 @@ sieve-kept rs = sieve-from 1 rs (omega arith) ∙ ap (λ (b : Bool). unless b 3)
 -- ---- the search
 
 -- what is found from number k on is a row of the list, and starts there
-find-from : (rs : List Row) (k start i : ℕ) (r e : Row) → find_from k start rs ≡ At i r → (k ≤ i) × (i < k + length rs) × (r ≡ get_or rs (i - k) e) × (r.start ≡ start)
+find-from : (rs : List Row) (k start i : ℕ) (r e : Row) → find_from k start rs ≡ Some (i, r) → (k ≤ i) × (i < k + length rs) × (r ≡ get_or rs (i - k) e) × (r.start ≡ start)
 unfolding find_from
 find-from [] k start i r e h = let z : ◌≡◌ {A = ℕ} 0 1 = cc in absurd (omega arith)
 find-from (q ∷ rs) k start i r e h = go (eqb q.start start) refl h (find-from rs (k + 1) start i r e)
   where
-    go : (b : Bool) → eqb q.start start ≡ b → cond b (At k q) (find_from (k + 1) start rs) ≡ At i r
-        → (find_from (k + 1) start rs ≡ At i r → (k + 1 ≤ i) × (i < k + 1 + length rs) × (r ≡ get_or rs (i - (k + 1)) e) × (r.start ≡ start))
+    go : (b : Bool) → eqb q.start start ≡ b → cond b (Some (k, q)) (find_from (k + 1) start rs) ≡ Some (i, r)
+        → (find_from (k + 1) start rs ≡ Some (i, r) → (k + 1 ≤ i) × (i < k + 1 + length rs) × (r ≡ get_or rs (i - (k + 1)) e) × (r.start ≡ start))
         → (k ≤ i) × (i < k + suc (length rs)) × (r ≡ get_or (q ∷ rs) (i - k) e) × (r.start ≡ start)
     go true t x rec =
-        let y : k ≡ i = cc in
-        let z : q ≡ r = cc in
+        let p : ◌≡◌ {A = ℕ × Row} (k, q) (i, r) = cc in
+        let y : k ≡ i = ap (λ (o : ℕ × Row). o.0) p in
+        let z : q ≡ r = ap (λ (o : ℕ × Row). o.1) p in
         let d : i - k ≡ 0 = omega arith in
         (omega arith, omega arith, rw (d, z) refl, rw (← z) (eqb-true q.start start t))
     go false t x rec =
@@ -275,7 +275,7 @@ find-from (q ∷ rs) k start i r e h = go (eqb q.start start) refl h (find-from 
         let d : i - k ≡ suc (i - (k + 1)) = omega arith in
         (omega arith, omega arith, rw d y.2, y.3)
 
-module _ (rs : List Row) (start k : ℕ) (r : Row) (h : find start rs ≡ At k r) where
+module _ (rs : List Row) (start k : ℕ) (r : Row) (h : find start rs ≡ Some (k, r)) where
   -- the number that a search finds is a row's
   pub found_below : k < length rs
   found_below = omega (arith, (find-from rs 0 start k r r h).1)
@@ -289,30 +289,30 @@ module _ (rs : List Row) (start k : ℕ) (r : Row) (h : find start rs ≡ At k r
   found_start = (find-from rs 0 start k r r h).3
 
 -- where none is found from number k on, no row starts there
-missing-from : (rs : List Row) (k start : ℕ) → find_from k start rs ≡ Missing → (i : ℕ) (e : Row) → i < length rs → (get_or rs i e).start ≡ start → ⊥
+missing-from : (rs : List Row) (k start : ℕ) → find_from k start rs ≡ None → (i : ℕ) (e : Row) → i < length rs → (get_or rs i e).start ≡ start → ⊥
 unfolding find_from
 missing-from [] k start h i e l x = omega arith
 missing-from (r ∷ rs) k start h i e l x = go (eqb r.start start) refl h (missing-from rs (k + 1) start) i l x
   where
-    go : (b : Bool) → eqb r.start start ≡ b → cond b (At k r) (find_from (k + 1) start rs) ≡ Missing
-        → (find_from (k + 1) start rs ≡ Missing → (i : ℕ) (e : Row) → i < length rs → (get_or rs i e).start ≡ start → ⊥)
+    go : (b : Bool) → eqb r.start start ≡ b → cond b (Some (k, r)) (find_from (k + 1) start rs) ≡ None
+        → (find_from (k + 1) start rs ≡ None → (i : ℕ) (e : Row) → i < length rs → (get_or rs i e).start ≡ start → ⊥)
         → (i : ℕ) → i < suc (length rs) → (get_or (r ∷ rs) i e).start ≡ start → ⊥
     go true t y rec i l x = let z : ◌≡◌ {A = ℕ} 0 1 = cc in omega arith
     go false t y rec zero l x = eqb-false r.start start t x
     go false t y rec (suc i) l x = rec y i e (omega arith) x
 
 -- where none is found, no row starts there
-pub missing-none : (rs : List Row) (start : ℕ) → find start rs ≡ Missing → (i : ℕ) (e : Row) → i < length rs → (get_or rs i e).start ≡ start → ⊥
+pub missing-none : (rs : List Row) (start : ℕ) → find start rs ≡ None → (i : ℕ) (e : Row) → i < length rs → (get_or rs i e).start ≡ start → ⊥
 missing-none rs start h = missing-from rs 0 start h
 
 -- no row starts there: none is found
-pub none-missing : (rs : List Row) (k start : ℕ) (e : Row) → ((i : ℕ) → i < length rs → (get_or rs i e).start ≡ start → ⊥) → find_from k start rs ≡ Missing
+pub none-missing : (rs : List Row) (k start : ℕ) (e : Row) → ((i : ℕ) → i < length rs → (get_or rs i e).start ≡ start → ⊥) → find_from k start rs ≡ None
 unfolding find_from
 none-missing [] k start e h = refl
 none-missing (r ∷ rs) k start e h = rw (ne_eqb r.start start (h 0 (omega arith))) (none-missing rs (k + 1) start e (λ i l. h (suc i) (omega arith)))
 
 -- the first row that starts there is the one that is found
-pub first_found : (rs : List Row) (k start i : ℕ) (e : Row) → i < length rs → (get_or rs i e).start ≡ start → ((j : ℕ) → j < i → (get_or rs j e).start ≡ start → ⊥) → find_from k start rs ≡ At (k + i) (get_or rs i e)
+pub first_found : (rs : List Row) (k start i : ℕ) (e : Row) → i < length rs → (get_or rs i e).start ≡ start → ((j : ℕ) → j < i → (get_or rs j e).start ≡ start → ⊥) → find_from k start rs ≡ Some (k + i, get_or rs i e)
 unfolding find_from
 first_found [] k start i e l x h = absurd (omega arith)
 first_found (r ∷ rs) k start zero e l x h = rw (eq-eqb r.start start x, add-zero) refl
@@ -321,17 +321,17 @@ first_found (r ∷ rs) k start (suc i) e l x h =
     rw (ne_eqb r.start start (h 0 (omega arith)), d) (first_found rs (k + 1) start i e (omega arith) x (λ j m. h (suc j) (omega arith)))
 
 -- a kept table's row is found by its start
-pub kept_found : (rs : List Row) → table_kept rs ≡ true → (i : ℕ) (e : Row) → i < length rs → find (get_or rs i e).start rs ≡ At i (get_or rs i e)
+pub kept_found : (rs : List Row) → table_kept rs ≡ true → (i : ℕ) (e : Row) → i < length rs → find (get_or rs i e).start rs ≡ Some (i, get_or rs i e)
 kept_found rs h i e l = first_found rs 0 (get_or rs i e).start i e l refl (λ j m x. omega (arith, kept_rising rs h j i e m l)) ∙ rw zero-add refl
 
 -- ---- what goes on from a search
 
 -- the row that was found goes on to f
-pub with_row_lem : (start : ℕ) (rs : List Row) (k : ℕ) (r : Row) (f : Row → ℕ) → At k r ≡ find start rs → f r ≡ with_row (find start rs) f
+pub with_row_lem : (start : ℕ) (rs : List Row) (k : ℕ) (r : Row) (f : Row → ℕ) → Some (k, r) ≡ find start rs → f r ≡ with_row (find start rs) f
 with_row_lem start rs k r f h = ap (λ (o : Found). with_row o f) h
 
 -- without one it is refusal 14
-pub with_none : (start : ℕ) (rs : List Row) (f : Row → ℕ) → Missing ≡ find start rs → 14 ≡ with_row (find start rs) f
+pub with_none : (start : ℕ) (rs : List Row) (f : Row → ℕ) → None ≡ find start rs → 14 ≡ with_row (find start rs) f
 with_none start rs f h = ap (λ (o : Found). with_row o f) h
 
 -- ---- a kept table by every two rows

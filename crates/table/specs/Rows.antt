@@ -1,11 +1,9 @@
 -- The extents table (document 01, "What a call is lent"): "rows of five u64, starts rising strictly: start (not 0),
 -- length (not 0; their sum fits and does not pass the next row's start), references, generation made, keyed (0 or 1)".
-use Rattle.std.specs.Prelude.{Bool, cond, ◌&&◌, not, List, [], ◌∷◌, ℕ, ◌+◌, ◌%◌, ◌^◌, eqb, leb, ltb, length, get_or}
+use Rattle.std.specs.Prelude.{Bool, cond, ◌&&◌, not, List, [], ◌∷◌, ℕ, ◌+◌, ◌%◌, ◌^◌, eqb, leb, ltb, length, get_or, Some, None, Option}
 use Rattle.records.specs.Records.{records}
 use Rattle.records.specs.Stages.{unless, every, neighbours}
 use Rattle.table.specs.declared.Row.{Row}
-use Rattle.table.specs.declared.Found.{Found}
-use Rattle.table.specs.declared.Found.TheVariants.{At, Missing}
 
 -- the row in the first five numbers, and the rows of a table
 unfoldable pub row_of : List ℕ → Row
@@ -38,18 +36,22 @@ row_before r s = leb (r.start + r.length) s.start
 unfoldable pub table_kept : List Row → Bool
 table_kept rs = every row_sound rs && neighbours row_before rs
 
+-- what a search finds: a row with its number, or none
+abbrev pub Found : Type 0
+Found = Option (ℕ × Row)
+
 -- the first row, from number k on, that starts at `start`
 unfoldable pub find_from : ℕ → ℕ → List Row → Found
-find_from k start [] = Missing
-find_from k start (r ∷ rs) = cond (eqb r.start start) (At k r) (find_from (k + 1) start rs)
+find_from k start [] = None
+find_from k start (r ∷ rs) = cond (eqb r.start start) (Some (k, r)) (find_from (k + 1) start rs)
 
 abbrev pub find : ℕ → List Row → Found
 find start rs = find_from 0 start rs
 
 -- What a search's answer says: "An extent without a row ends the plan with 14"; the row that was found goes on to f
 abbrev pub with_row : Found → (Row → ℕ) → ℕ
-with_row (At k r) f = f r
-with_row Missing f = 14
+with_row (Some (k, r)) f = f r
+with_row None f = 14
 
 -- one more reference to the extent at `start`: 14 without a row, "15: keyed references"
 abbrev pub one_more_reference : ℕ → List Row → ℕ

@@ -22,13 +22,6 @@ pub struct Row {
     pub keyed: u64,
 }
 
-// What a search finds: the row with its number, or none, for which refusal 14 is due.
-#[derive(Clone, Copy)]
-pub enum Found {
-    At(usize, Row),
-    Missing,
-}
-
 // The row at place `at` of a table.
 fn row_in(table: &[u64], at: usize) -> Row
     requires { at + 5 ≤ length table.now }
@@ -92,8 +85,8 @@ pub fn table_refusal(table: &[u64]) -> u8
     0
 }
 
-// The row that starts at `start`, by halves.
-pub fn find_row(table: &[u64], start: u64) -> Found
+// The row that starts at `start`, with its number, by halves; or none, for which refusal 14 is due.
+pub fn find_row(table: &[u64], start: u64) -> Option<(usize, Row)>
     requires { table_kept (rows table.now) ≡ true }
     ensures { result ≡ find start (rows table.now) }
 {
@@ -103,7 +96,7 @@ pub fn find_row(table: &[u64], start: u64) -> Found
         let mid = lo + (hi - lo) / 2;
         let s = table[mid * 5];
         if s == start {
-            return Found::At(mid, row_at(table, mid));
+            return Some((mid, row_at(table, mid)));
         }
         if s < start {
             lo = mid + 1;
@@ -111,7 +104,7 @@ pub fn find_row(table: &[u64], start: u64) -> Found
             hi = mid;
         }
     }
-    Found::Missing
+    None
 }
 
 // Whether [logical, logical + len) lies inside the extent: the port's own signature.
@@ -145,7 +138,7 @@ pub fn one_more_reference(table: &[u64], start: u64) -> u8
     requires { table_kept (rows table.now) ≡ true }
     ensures { result ≡ one_more_reference start (rows table.now) }
 {
-    let Found::At(_, row) = find_row(table, start) else {
+    let Some((_, row)) = find_row(table, start) else {
         return refusal::NO_ROW;
     };
     unless(row.keyed == 0, refusal::KEYED)
