@@ -1,2 +1,3 @@
 pub mod Items
 pub mod Raw
+pub mod Reading

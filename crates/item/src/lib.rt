@@ -1,6 +1,10 @@
 // An item of a file's list: the port's `DiskKey` with the data of its `EXTENT_DATA` item, and `regular_extent_item`.
 #![tactic(auto)]
 
+pub mod reader;
+
+pub use reader::{Reader, items, reader_at};
+
 ghost use Rattle.std.specs.Prelude.{◌≡◌, ◌+◌, ◌*◌, ◌^◌, ◌<◌, ◌≤◌, length, take, drop, replicate};
 ghost use Rattle.records.specs.Lent.{old, new};
 ghost use Rattle.endian.specs.Le.{num, enc, put};

@@ -1,48 +1,16 @@
 // The checks of a file's list and of its shared bytes. Each answers 0 or the number of a refusal.
-#![tactic(auto)]
+#![tactic(auto, unfolding(records::specs::Stages::first, records::specs::Stages::first_of, records::specs::Stages::stage))]
 
 ghost use Rattle.std.specs.Prelude.{◌≡◌, not, true, ◌||◌, ℕ, ◌+◌, ◌*◌, ◌%◌, ◌^◌, ◌<◌, ◌≤◌, leb, ltb, length, drop};
+ghost use Rattle.records.specs.Refusals.{why};
 ghost use Rattle.records.specs.Stages.{unless, stage, every};
 ghost use Rattle.item.specs.Items.{fields, item_of, items, ranged};
 ghost use Rattle.lists.specs.Lists.{shared_sound, range_sound, item_sound, list_kept, whole_sectors, record_refusal};
 ghost use Rattle.lists.specs.Raw.{follows, turn, next, list_sized};
 
 use item::Item;
+use records::refusal::{Refusal, check};
 use records::{both, either, first, refusal, sum_at_most, sum_fits, unless, whenever};
-
-// ---- a reader: the list, and the number of the record that is read
-
-#[derive(Clone, Copy)]
-pub struct Reader<'a> {
-    pub list: &'a [u8],
-    pub number: usize,
-}
-
-// A reader at a record.
-pub fn reader_at<'a>(list: &'a [u8], number: usize) -> Reader<'a>
-    ensures { (result.list ≡ list.entry) × (result.number ≡ number) }
-{
-    Reader { list, number }
-}
-
-// The record that it stands at.
-pub fn read<'a>(r: Reader<'a>) -> Item
-    requires { r.number * 70 + 70 ≤ length r.list.now }
-    ensures { result ≡ item_of (drop (r.entry.number * 70) r.entry.list.now) }
-{
-    item::item_at(r.list, r.number)
-}
-
-// The reader at the record after it.
-pub fn advance<'a>(r: Reader<'a>) -> Reader<'a>
-    requires { r.number + 1 < 2 ^ 64 }
-    ensures { (result.list ≡ r.entry.list) × (result.number ≡ r.entry.number + 1) }
-{
-    Reader {
-        list: r.list,
-        number: r.number + 1,
-    }
-}
 
 // ---- refusals
 
@@ -232,34 +200,24 @@ pub fn sectors_refusal(list: &[u8], sector: u64) -> u8
 }
 
 // Refusals 7, 8 and 9 of one record.
-pub fn record_refusal(item: Item) -> u8
-    ensures { result ≡ record_refusal (fields item) }
+pub fn record_refusal(item: Item) -> Result<(), Refusal>
+    ensures { why result ≡ record_refusal (fields item) }
 {
     let kind = item.kind();
-    first(
-        whenever(kind == 0, refusal::INLINE),
-        first(
-            unless(kind <= 2, refusal::KIND),
-            unless(
-                both(item.encryption() == 0, item.other() == 0),
-                refusal::ENCODED,
-            ),
-        ),
+    check(kind != 0, Refusal::Inline)?;
+    check(kind <= 2, Refusal::Kind)?;
+    check(
+        item.encryption() == 0 && item.other() == 0,
+        Refusal::Encoded,
     )
 }
 
 // Refusals 7, 8 and 9, record by record.
-pub fn records_refusal(list: &[u8]) -> u8
-    ensures { result ≡ stage record_refusal (items list.now) }
+pub fn records_refusal(list: &[u8]) -> Result<(), Refusal>
+    ensures { why result ≡ stage record_refusal (items list.now) }
 {
-    let n = list.len() / item::RECORD;
-    let mut r = reader_at(list, 0);
-    while r.number < n {
-        let why = record_refusal(read(r));
-        if why != 0 {
-            return why;
-        }
-        r = advance(r);
+    for item in item::items(list) {
+        record_refusal(item)?;
     }
-    0
+    Ok(())
 }

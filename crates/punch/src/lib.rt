@@ -195,7 +195,7 @@ pub fn range_refusal(v: Volume, f: File, r: Range, list: &[u8], shared: &[u8], t
     if broken != 0 {
         return broken;
     }
-    lists::records_refusal(list)
+    refusal::number_of(lists::records_refusal(list))
 }
 
 // A punch of a hole into a file: the answer, and the plan in the six outputs. Any bytes may be lent.
