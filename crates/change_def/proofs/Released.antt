@@ -1,5 +1,5 @@
 -- A change releases an extent exactly when it drops all references of it. Assumes nothing.
-use mathlib.Core.Path.{◌≡◌, refl, ◌∙◌, sym}
+use mathlib.Core.Path.{◌≡◌, refl, ◌∙◌, sym, ap}
 use mathlib.Core.Bool.{Bool, true, false, cond, ◌&&◌, not}
 use mathlib.Core.List.{List}
 use Prim.Native.Nat.{ℕ, ◌+◌, ◌%◌, ◌<◌, ◌≤◌}
@@ -131,7 +131,9 @@ module _ (g : Ground) (c : Change) (fair : Fair g c) (st : ℕ) where
           (some, omega (arith, l.3, balance_of (dropped-elsewhere d) l.0 l.1 l.2))
         where
           same_row : (j k : ℕ) (a b : Row) → find st g.rows ≡ Some (j, a) → find st g.rows ≡ Some (k, b) → a ≡ b
-          same_row j k a b p q = cc
+          same_row j k a b p q =
+              let e : (j, a) ≡ (k, b) = cc in
+              ap (λ (x : ℕ × Row). x.1) e
 
       -- no reference is left: a release
       pub released-always : every (λ (h : InLeaf). eqb h.shared 0) g.in_leaves ≡ true
