@@ -85,7 +85,10 @@ pub fn lent_refusal(number: u64, sector: u64, list: &[u8], table: &[u64], edits:
         lists::list_refusal(list, number),
         first(
             apply_walk::edits_order_refusal(edits),
-            first(table::table_refusal(table), fours(sector, list)),
+            first(
+                refusal::number_of(table::table_refusal(table)),
+                fours(sector, list),
+            ),
         ),
     )
 }

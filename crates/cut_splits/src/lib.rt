@@ -25,7 +25,7 @@ fn split_refusal(table: &[u64], lo: u64, hi: u64, item: Item) -> u8
     ensures { result ≡ split_refusal lo hi (rows table.now) (fields item) }
 {
     if cut_def::is_split(lo, hi, item) {
-        table::one_more_reference(table, item.extent_start())
+        records::refusal::number_of(table::one_more_reference(table, item.extent_start()))
     } else {
         0
     }

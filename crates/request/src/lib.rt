@@ -120,7 +120,7 @@ fn ones(list: &[u8], shared: &[u8], table: &[u64]) -> u8
         lists::list_size_refusal(list),
         first(
             lists::shared_refusal(shared, list),
-            table::table_size_refusal(table),
+            refusal::number_of(table::table_size_refusal(table)),
         ),
     )
 }
@@ -144,7 +144,7 @@ pub fn lent_refusal(v: Volume, f: File, list: &[u8], shared: &[u8], table: &[u64
 {
     let kept = first(
         lists::list_refusal(list, f.number),
-        table::table_refusal(table),
+        refusal::number_of(table::table_refusal(table)),
     );
     first(
         ones(list, shared, table),
@@ -168,7 +168,7 @@ pub fn lent_refusal2(
     let sizes = first(lists::list_size_refusal(source), ones(list, shared, table));
     let kept = first(
         twos(dst.number, src.number, own, list, source),
-        table::table_refusal(table),
+        refusal::number_of(table::table_refusal(table)),
     );
     first(
         sizes,

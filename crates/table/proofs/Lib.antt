@@ -3,3 +3,4 @@ pub mod Halves
 pub mod Examples
 pub mod Windows
 pub mod Samples
+pub mod Reading

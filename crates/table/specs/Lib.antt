@@ -1,3 +1,4 @@
 pub mod Rows
 pub mod Windows
 pub mod Raw
+pub mod Reading

@@ -1,7 +1,10 @@
 // The lent table of extents: its rows, the search for one, and `window_inside_extent`.
 #![tactic(auto)]
 
+pub mod reader;
+
 ghost use Rattle.std.specs.Prelude.{◌≡◌, true, ◌+◌, ◌*◌, ◌≤◌, length, drop};
+ghost use Rattle.records.specs.Refusals.{why};
 ghost use Rattle.records.specs.Stages.{unless};
 ghost use Rattle.item.specs.Items.{fields};
 ghost use Rattle.table.specs.Rows.{row_of, rows, table_kept, find, one_more_reference};
@@ -9,7 +12,8 @@ ghost use Rattle.table.specs.Windows.{window_inside, window_sound};
 ghost use Rattle.table.specs.Raw.{row_at, row_refusal, table_sized};
 
 use item::Item;
-use records::{both, either, refusal, sum_fits, unless};
+pub use reader::{Reader, reader_at, rows};
+use records::refusal::{Refusal, check};
 
 // An extent: where it lies, how many items name it, the generation that made it, and whether its references are
 // kept as items of their own.
@@ -21,6 +25,9 @@ pub struct Row {
     pub made: u64,
     pub keyed: u64,
 }
+
+// The numbers of a row.
+pub const WIDTH: usize = 5;
 
 // The row at place `at` of a table.
 fn row_in(table: &[u64], at: usize) -> Row
@@ -41,48 +48,42 @@ pub fn row_at(table: &[u64], n: usize) -> Row
     requires { n * 5 + 5 ≤ length table.now }
     ensures { result ≡ row_of (drop (n * 5) table.now) }
 {
-    row_in(table, n * 5)
+    row_in(table, n * WIDTH)
 }
 
 // Refusal 1 of a table: broken length, or over-long.
-pub fn table_size_refusal(table: &[u64]) -> u8
-    ensures { result ≡ unless (table_sized table.now) 1 }
+pub fn table_size_refusal(table: &[u64]) -> Result<(), Refusal>
+    ensures { why result ≡ unless (table_sized table.now) 1 }
 {
     let n = table.len();
-    unless(both(n % 5 == 0, n / 5 <= 65536), refusal::BROKEN)
+    check(n % WIDTH == 0 && n / WIDTH <= 65536, Refusal::Broken)
 }
 
 // Refusal 3 of one row: one that starts before `from`, has no length, ends outside 64 bits, or is not keyed by 0 or 1.
-fn row_refusal(from: u64, row: Row) -> u8
-    ensures { result ≡ row_refusal from row }
+fn row_refusal(from: u64, row: Row) -> Result<(), Refusal>
+    ensures { why result ≡ row_refusal from row }
 {
-    unless(
-        both(
-            both(
-                both(from <= row.start, row.length != 0),
-                sum_fits(row.start, row.length),
-            ),
-            row.keyed <= 1,
-        ),
-        refusal::TABLE,
+    check(
+        from <= row.start
+            && row.length != 0
+            && row.start.checked_add(row.length).is_some()
+            && row.keyed <= 1,
+        Refusal::Table,
     )
 }
 
 // Refusal 3: a table that is not as it should be. `from` is where the row before ends; 1 before the first, since no row
 // starts at 0.
-pub fn table_refusal(table: &[u64]) -> u8
-    ensures { result ≡ unless (table_kept (rows table.now)) 3 }
+#[tactic(auto, unfolding(records::specs::Raw::sieve, records::specs::Stages::first))]
+pub fn table_refusal(table: &[u64]) -> Result<(), Refusal>
+    ensures { why result ≡ unless (table_kept (rows table.now)) 3 }
 {
     let mut from: u64 = 1;
-    for i in 0..table.len() / 5 {
-        let row = row_at(table, i);
-        let why = row_refusal(from, row);
-        if why != 0 {
-            return why;
-        }
+    for row in rows(table) {
+        row_refusal(from, row)?;
         from = row.start + row.length;
     }
-    0
+    Ok(())
 }
 
 // The row that starts at `start`, with its number, by halves; or none, for which refusal 14 is due.
@@ -91,10 +92,10 @@ pub fn find_row(table: &[u64], start: u64) -> Option<(usize, Row)>
     ensures { result ≡ find start (rows table.now) }
 {
     let mut lo = 0;
-    let mut hi = table.len() / 5;
+    let mut hi = table.len() / WIDTH;
     while lo < hi {
         let mid = lo + (hi - lo) / 2;
-        let s = table[mid * 5];
+        let s = table[mid * WIDTH];
         if s == start {
             return Some((mid, row_at(table, mid)));
         }
@@ -111,50 +112,45 @@ pub fn find_row(table: &[u64], start: u64) -> Option<(usize, Row)>
 pub fn window_inside_extent(logical: u64, len: u64, extent_start: u64, extent_len: u64) -> bool
     ensures { result ≡ window_inside logical len extent_start extent_len }
 {
-    if len > 18446744073709551615 - logical {
+    let (Some(end), Some(extent_end)) = (
+        logical.checked_add(len),
+        extent_start.checked_add(extent_len),
+    ) else {
         return false;
-    }
-    if extent_len > 18446744073709551615 - extent_start {
-        return false;
-    }
-    if logical < extent_start {
-        return false;
-    }
-    logical + len <= extent_start + extent_len
+    };
+    extent_start <= logical && end <= extent_end
 }
 
 // The same of an item's window, whose start may leave 64 bits.
 pub fn item_window_inside(bytenr: u64, position: u64, len: u64, extent_len: u64) -> bool
     ensures { result ≡ window_inside (bytenr + position) len bytenr extent_len }
 {
-    if position > 18446744073709551615 - bytenr {
+    let Some(logical) = bytenr.checked_add(position) else {
         return false;
-    }
-    window_inside_extent(bytenr + position, len, bytenr, extent_len)
+    };
+    window_inside_extent(logical, len, bytenr, extent_len)
 }
 
 // Refusals 14 and 15 of one more reference to the extent at `start`.
-pub fn one_more_reference(table: &[u64], start: u64) -> u8
+pub fn one_more_reference(table: &[u64], start: u64) -> Result<(), Refusal>
     requires { table_kept (rows table.now) ≡ true }
-    ensures { result ≡ one_more_reference start (rows table.now) }
+    ensures { why result ≡ one_more_reference start (rows table.now) }
 {
     let Some((_, row)) = find_row(table, start) else {
-        return refusal::NO_ROW;
+        return Err(Refusal::NoRow);
     };
-    unless(row.keyed == 0, refusal::KEYED)
+    check(row.keyed == 0, Refusal::Keyed)
 }
 
 // Whether an item's window lies inside the extent, if it is not compressed.
 pub fn window_sound(item: Item, row: Row) -> bool
     ensures { result ≡ window_sound (fields item) row }
 {
-    either(
-        item.compression() != 0,
-        item_window_inside(
+    item.compression() != 0
+        || item_window_inside(
             item.extent_start(),
             item.position(),
             item.length(),
             row.length,
-        ),
-    )
+        )
 }

@@ -48,7 +48,7 @@ fn sectors_kept(list: &[u8], sector: u64) -> u8 {
 pub fn kept(f: usize, s: &[u64], list: &[u8], rows: &[u64]) -> u8 {
     let sizes = first(
         lists::list_size_refusal(list),
-        table::table_size_refusal(rows),
+        records::refusal::number_of(table::table_size_refusal(rows)),
     );
     let number = state::file_number(f);
     let records = first(
@@ -56,7 +56,7 @@ pub fn kept(f: usize, s: &[u64], list: &[u8], rows: &[u64]) -> u8 {
         sectors_kept(list, state::sector(s)),
     );
     let well = unless(first(sizes, records) == 0, LIST_KEPT);
-    first(well, unless(table::table_refusal(rows) == 0, TABLE_KEPT))
+    first(well, unless(table::table_refusal(rows).is_ok(), TABLE_KEPT))
 }
 
 // ---- 3: the bytes of the other files
