@@ -36,6 +36,24 @@ module _ {A B : Type 0} (f : B → List ℕ) (v : ℕ) (g : A → List B) (d : L
   unfolding flat_map
   flat_done s k i n₀ all out₀ n out h going = going_done f v n₀ all out₀ n out (rw (rest_nil d w s k i h) at going)
 
+-- a loop over what a reader has left: r is the next record, and the lines before it are laid
+module _ {A B : Type 0} (f : B → List ℕ) (v : ℕ) (g : A → List B) (n₀ : ℕ) (all : List B) (out₀ : List ℕ) (n : ℕ) (out : List ℕ) (l : List A) (going : Going f v n₀ all out₀ n (flat_map g l) out) where
+  module _ (r : A) (l' : List A) (e : l ≡ r ∷ l') where
+    next_lines : flat_map g l ≡ g r ++ flat_map g l'
+    unfolding flat_map
+    next_lines = ap (flat_map g) e
+
+    -- its lines are among all
+    pub next_room : n + length (g r) ≤ n₀ + length all
+    next_room = omega (arith, going.lines, ap length next_lines, length-append (g r) (flat_map g l'))
+
+    pub next_turn : (m : ℕ) (out' : List ℕ) → Laid f v n (g r) out m out' → Going f v n₀ all out₀ m (flat_map g l') out'
+    next_turn m out' h = going-turn f v n₀ all out₀ n (g r) (flat_map g l') out m out' (rw next_lines at going) h
+
+  pub none_left : l ≡ [] → Laid f v n₀ all out₀ n out
+  unfolding flat_map
+  none_left e = going_done f v n₀ all out₀ n out (rw e at going)
+
 module _ {B : Type 0} (f : B → List ℕ) (w : ℕ) where
   -- the same lines
   pub laid_same : (n : ℕ) (k l : List B) (out : List ℕ) (m : ℕ) (out' : List ℕ) → k ≡ l → Laid f w n l out m out' → Laid f w n k out m out'
