@@ -1,5 +1,4 @@
 pub mod Items
-pub mod Sources
 pub mod Mappings
 pub mod Fits
 pub mod Examples

@@ -20,7 +20,7 @@ pub record Copyable (c : Copying) (f : Fields) : Type 0 where
   pub sound : range_sound f ≡ true
   pub over : overlaps c f ≡ true
 
--- what a well_kept_lem list has of each item
+-- what a well-kept list has of each item
 abbrev pub range_kept : Fields → Bool
 range_kept f = not (ranged f) || range_sound f
 

@@ -1,14 +1,14 @@
-use mathlib.Core.Path.{◌≡◌}
-use Prim.Native.Nat.{◌-◌, ◌≤◌}
-use Rattle.records.specs.Stages.{stage}
-use Rattle.records.proofs.Loops.{rest}
-use Rattle.item.specs.Items.{decode, items}
+use Rattle.std.proofs.Common.{◌≡◌, true}
+use Rattle.records.specs.Stages.{stage, every}
+use Rattle.item.specs.Items.{items}
+use Rattle.item.specs.Reading.{left}
 use Rattle.table.specs.Rows.{rows}
 use Rattle.clone_items.specs.Copies.{source_record}
+use Rattle.clone_items.specs.Raw.{range_kept}
 use Rattle.clone_items.proofs.source_records.Given as goal
 
-abbrev pub invariant-loop-i : goal.invariant-loop-i
-invariant-loop-i l = (l.i ≤ l.i-end) × (stage (source_record (rows l.table) l.c) (rest decode 70 l.list l.i-end l.i) ≡ stage (source_record (rows l.table) l.c) (items l.list))
-
-abbrev pub decreases-loop-i : goal.decreases-loop-i
-decreases-loop-i l = l.i-end - l.i
+abbrev pub invariant-loop-item : goal.invariant-loop-item
+invariant-loop-item l = record {
+  kept : every range_kept (left l.item-iterator) ≡ true;
+  same : stage (source_record (rows l.table) l.c) (left l.item-iterator) ≡ stage (source_record (rows l.table) l.c) (items l.list);
+}
