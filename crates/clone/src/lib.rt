@@ -1,7 +1,8 @@
 // A clone: the list that is read as source (`source_list`), the refusals in order, and the operation, `clone_range`.
-#![tactic(auto)]
+#![tactic(auto, unfolding(records::specs::Stages::first))]
 
 ghost use Rattle.std.specs.Prelude.{false, true, List, [], ◌≡◌, ℕ, ◌+◌, ◌-◌, ◌<◌, ◌^◌, length};
+ghost use Rattle.records.specs.Refusals.{why};
 ghost use Rattle.records.specs.Stages.{every};
 ghost use Rattle.item.specs.Items.{items};
 ghost use Rattle.cut_segment.specs.Segments.{Runs};
@@ -20,7 +21,8 @@ ghost use Rattle.clone.specs.Raw.{meant, copying_of, lent_asked, destination_ask
 use change_lay::Counts;
 use clone_items::Copying;
 use clone_span::CloneRange;
-use records::{first, refusal, whenever};
+use records::refusal::{self, Refusal, number_of};
+use records::{first, whenever};
 use request::{Answer, File, Numbers, Volume};
 
 // The list that is read as source: for one file cloned into itself the destination's.
@@ -55,17 +57,23 @@ fn lent_asked(
     if lent != 0 {
         return lent;
     }
-    clone_span::source_refusal(v.sector, src.size, s)
+    number_of(clone_span::source_refusal(v.sector, src.size, s))
 }
 
 // Refusals 6, 23 and 24, those of the destination's records, and 25.
-fn destination_asked(sector: u64, own: bool, size: u64, s: CloneRange, list: &[u8]) -> u8
+fn destination_asked(
+    sector: u64,
+    own: bool,
+    size: u64,
+    s: CloneRange,
+    list: &[u8],
+) -> Result<(), Refusal>
     requires { (sector_sound sector ≡ true) × (s.from + s.length < 2 ^ 63) }
-    ensures { result ≡ destination_asked sector own size s (items list.now) }
+    ensures { why result ≡ destination_asked sector own size s (items list.now) }
 {
-    let range = clone_span::destination_refusal(sector, own, size, s);
-    let grows = clone_span::growth_refusal(sector, size, s.to, s.length, list);
-    first(range, first(clone_span::destination_records(list), grows))
+    clone_span::destination_refusal(sector, own, size, s)?;
+    clone_span::destination_records(list)?;
+    clone_span::growth_refusal(sector, size, s.to, s.length, list)
 }
 
 // The refusals of drops, of splits and of the source's records, and 13. The shared bytes do not count.
@@ -77,7 +85,7 @@ fn copies_asked(generation: u64, c: Copying, list: &[u8], source: &[u8], table: 
     let k = clone_lay::cut_for(c);
     let drop = cut_touched::drops_refusal(k, list, table);
     let split = cut_touched::splits_refusal(list, table, k.lo, k.hi);
-    let records = clone_items::source_records(c, table, source);
+    let records = number_of(clone_items::source_records(c, table, source));
     let last = whenever(generation == 18446744073709551615, refusal::GENERATION);
     first(drop, first(split, first(records, last)))
 }
@@ -172,7 +180,7 @@ fn draft_clone(
     if m.length == 0 {
         return Answer::Nothing;
     }
-    let asked = destination_asked(v.sector, own, dst.size, m, list);
+    let asked = number_of(destination_asked(v.sector, own, dst.size, m, list));
     if asked != 0 {
         return Answer::Refused(asked);
     }

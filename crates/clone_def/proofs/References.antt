@@ -216,7 +216,8 @@ module _ (v : Volume) (dst src : File) (own : Bool) (span : CloneRange) (before 
           let d = line-drops start gone rs (accepted v dst src own span before shared source rs p h).«table_kept» e in
           let some : 0 < naming start before + others = omega (arith, d.4, dropped-number, cover_most at) in
           let t = true' some in
-          let same : d.1 ≡ t.1 = cc (d.2, t.2) in
+          let found : ◌≡◌ {A = ℕ × Row} (d.0, d.1) (t.0, t.1) = cc (d.2, t.2) in
+          let same : d.1 ≡ t.1 = ap (λ (x : ℕ × Row). x.1) found in
           let refs : d.1.references ≡ t.1.references = ap (λ (r : Row). r.references) same in
           (some, omega (arith, d.3, refs, t.3, dropped-number, cover_most at, picked_most, now_counted at, cut-counted at)))
 
