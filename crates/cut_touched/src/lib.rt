@@ -48,7 +48,7 @@ pub fn drops_refusal(k: Cut, list: &[u8], table: &[u64]) -> u8
     let t = cut_segment::touched(list, k.lo, k.hi);
     let a = t.from * item::RECORD;
     let b = t.to * item::RECORD;
-    drop_lines::drops_refusal(k, &list[a..b], table)
+    records::refusal::number_of(drop_lines::drops_refusal(k, &list[a..b], table))
 }
 
 // `drop_lines::put_drops` of such a list.

@@ -1,12 +1,12 @@
 -- The lines of drops, row by row and item by item, and how many there are. Assumes nothing.
 use mathlib.Core.Path.{◌≡◌, refl, ap, ◌∙◌, sym}
-use mathlib.Core.Bool.{Bool, true, false, cond, not, and-true, and-false}
+use mathlib.Core.Bool.{Bool, true, false, cond, not}
 use mathlib.Core.List.{List, [], ◌∷◌, ◌++◌, map, flat_map}
 use Prim.Native.Nat.{ℕ, ◌+◌, ◌≤◌}
 use native.Mathlib.Omega.{arith}
 use lib.Dec.{eqb, leb}
 use lib.ListN.{length, length-append, length-map}
-use borrow.Author.Tests.{eq-eqb, ne_eqb, eqb-true, le-leb, leb-true, leb-false}
+use borrow.Author.Tests.{eqb-true, le-leb, leb-true, leb-false}
 use Rattle.records.specs.Select.{keep, count, only}
 use Rattle.records.specs.Stages.{every, pairs}
 use Rattle.records.proofs.Tests.{both_left, both_right, every_map}
@@ -40,14 +40,6 @@ module _ (c : Cut) (start : ℕ) where
 
   pub lines-items : (fs : List Fields) (bs : List ℕ) → length bs ≡ length fs → lines start (drops_in c fs bs) ≡ flat_map (line_of c start) fs
   lines-items fs bs h = ap (map (λ (d : InLeaf). ref_of d.item)) (drops_of_lem c start fs bs) ∙ lines-held fs bs h
-
-  -- whether an item is a drop of the extent, by its start first
-  module _ (f : Fields) (s : ℕ) (e : s ≡ f.extent_start) where
-    pub other-extent : (s ≡ start → ⊥) → false ≡ drop_of c start f
-    other-extent h = rw (ne_eqb f.extent_start start (rw e at h)) (sym (and-false (taken c f)))
-
-    pub own_extent : s ≡ start → taken c f ≡ drop_of c start f
-    own_extent h = rw (eq-eqb f.extent_start start (sym e ∙ h)) (sym (and-true (taken c f)))
 
   -- the line of one item, from whether it is a drop
   module _ (f : Fields) (t : Bool) (e : t ≡ drop_of c start f) where

@@ -1,5 +1,6 @@
 -- For the code only: what private functions compute, item by item and row by row.
-use Rattle.std.specs.Prelude.{Bool, cond, ◌&&◌, List, [], ◌∷◌, ℕ, eqb}
+use Rattle.std.specs.Prelude.{Bool, cond, ◌&&◌, List, [], ◌∷◌, ℕ, eqb, Option, Some, None}
+use Rattle.records.specs.Refusals.{number}
 use Rattle.records.specs.Select.{only}
 use Rattle.item.specs.Items.{Fields}
 use Rattle.table.specs.declared.Row.{Row}
@@ -9,17 +10,22 @@ use Rattle.drop_lines.specs.declared.Cut.{Cut}
 use Rattle.drop_lines.specs.declared.Refused.{Refused}
 use Rattle.drop_lines.specs.Dropped.{taken}
 
--- a refusal in code, as the definitions have it
-abbrev pub due : Refused → Due
-due d = record { start = d.start; number = d.number }
-
 -- nothing is refused
 abbrev pub none_due : Due
 none_due = record { start = 0; number = 0 }
 
+-- a refusal in code, as the definitions have it
+abbrev pub due : Option Refused → Due
+due None = none_due
+due (Some d) = record { start = d.start; number = number d.why }
+
+-- a drop that is not refused counts as none
+abbrev pub refused_only : Due → Due
+refused_only d = cond (eqb d.number 0) none_due d
+
 -- what is due for one item, if it is a drop, and for a list of items
 abbrev pub item_due : Cut → List Row → Fields → Due
-item_due c rows f = cond (taken c f) (record { start = f.extent_start; number = drop_refusal rows f }) none_due
+item_due c rows f = cond (taken c f) (refused_only (record { start = f.extent_start; number = drop_refusal rows f })) none_due
 
 unfoldable pub items_due : Cut → List Row → List Fields → Due
 items_due c rows [] = none_due

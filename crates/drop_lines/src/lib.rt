@@ -5,6 +5,7 @@
 ghost use Rattle.std.specs.Prelude.{◌≡◌, true, cond, not, ℕ, ◌+◌, ◌/◌, ◌≤◌, ◌<◌, ◌^◌, length};
 ghost use mathlib.Core.List.{List, flat_map};
 ghost use Rattle.records.specs.Lent.{old, new};
+ghost use Rattle.records.specs.Refusals.{why};
 ghost use Rattle.item.specs.Items.{fields, items};
 ghost use Rattle.table.specs.Rows.{rows, table_kept};
 ghost use Rattle.plan_def.specs.Outputs.{ref_numbers};
@@ -16,7 +17,7 @@ ghost use Rattle.drop_chains.specs.Links.{Blank, Linked};
 
 use drop_chains::RowRange;
 use item::Item;
-use records::{both, either, refusal, unless};
+use records::refusal::{Refusal, check};
 use table::Row;
 
 // The range that is cut, and the starts of two extents that are written in place (0: none), whose items are compared
@@ -29,98 +30,77 @@ pub struct Cut {
     pub two: u64,
 }
 
-// A refusal with the extent that it is due at; number 0 is none.
+// A refusal with the start of the extent that it is due at.
 #[derive(Clone, Copy)]
 pub struct Refused {
     pub start: u64,
-    pub number: u8,
+    pub why: Refusal,
 }
 
 // Whether the cut drops an item.
 fn is_dropped(c: Cut, item: Item) -> bool
     ensures { result ≡ taken c (fields item) }
 {
-    both(
-        cut_def::is_covered(c.lo, c.hi, item),
-        both(
-            !cut_def::is_hole(item),
-            !ref_def::is_among(c.one, c.two, item),
-        ),
-    )
+    cut_def::is_covered(c.lo, c.hi, item)
+        && !cut_def::is_hole(item)
+        && !ref_def::is_among(c.one, c.two, item)
 }
 
 // Refusals 14 and 17 of one drop.
-fn drop_refusal(table: &[u64], item: Item) -> u8
+fn drop_refusal(table: &[u64], item: Item) -> Result<(), Refusal>
     requires { table_kept (rows table.now) ≡ true }
-    ensures { result ≡ drop_refusal (rows table.now) (fields item) }
+    ensures { why result ≡ drop_refusal (rows table.now) (fields item) }
 {
     let Some((_, row)) = table::find_row(table, item.extent_start()) else {
-        return refusal::NO_ROW;
+        return Err(Refusal::NoRow);
     };
-    unless(table::window_sound(item, row), refusal::WINDOW)
+    check(table::window_sound(item, row), Refusal::Window)
 }
 
 // What is due for one item.
-fn item_due(c: Cut, table: &[u64], item: Item) -> Refused
+fn item_due(c: Cut, table: &[u64], item: Item) -> Option<Refused>
     requires { table_kept (rows table.now) ≡ true }
     ensures { due result ≡ item_due c (rows table.now) (fields item) }
 {
-    if is_dropped(c, item) {
-        return Refused {
-            start: item.extent_start(),
-            number: drop_refusal(table, item),
-        };
+    if !is_dropped(c, item) {
+        return None;
     }
-    Refused {
-        start: 0,
-        number: 0,
-    }
+    let why = drop_refusal(table, item).err()?;
+    let start = item.extent_start();
+    Some(Refused { start, why })
 }
 
 // Of two refusals the one at the lower start.
-fn earlier(a: Refused, b: Refused) -> Refused
+fn earlier(a: Option<Refused>, b: Option<Refused>) -> Option<Refused>
     ensures { due result ≡ earlier (due a) (due b) }
 {
-    if a.number == 0 {
-        return b;
+    match (a, b) {
+        (Some(first), Some(second)) if second.start < first.start => b,
+        (None, _) => b,
+        _ => a,
     }
-    if both(b.number != 0, b.start < a.start) {
-        return b;
-    }
-    a
 }
 
 // Refusals 14 and 17 of the drops, by extent start. The shared bytes do not count.
-pub fn drops_refusal(c: Cut, list: &[u8], table: &[u64]) -> u8
+pub fn drops_refusal(c: Cut, list: &[u8], table: &[u64]) -> Result<(), Refusal>
     requires { table_kept (rows table.now) ≡ true }
-    ensures { (bs : List ℕ) → length bs ≡ length (items list.now) → result ≡ drops_refusal (rows table.now) (drops_in c (items list.now) bs) }
+    ensures { (bs : List ℕ) → length bs ≡ length (items list.now) → why result ≡ drops_refusal (rows table.now) (drops_in c (items list.now) bs) }
 {
-    let n = list.len() / item::RECORD;
-    let mut why = Refused {
-        start: 0,
-        number: 0,
-    };
-    for i in 0..n {
-        let next = item_due(c, table, item::item_at(list, i));
-        why = earlier(why, next);
+    let mut first: Option<Refused> = None;
+    for item in item::items(list) {
+        first = earlier(first, item_due(c, table, item));
     }
-    why.number
+    match first {
+        Some(refused) => Err(refused.why),
+        None => Ok(()),
+    }
 }
 
 // Whether an item is a drop of the extent at `start`.
 fn is_drop_of(c: Cut, start: u64, item: Item) -> bool
     ensures { result ≡ drop_of c start (fields item) }
 {
-    if item.extent_start() != start {
-        return false;
-    }
-    is_dropped(c, item)
-}
-
-fn one_if(b: bool) -> u64
-    ensures { result ≡ cond b 1 0 }
-{
-    if b { 1 } else { 0 }
+    item.extent_start() == start && is_dropped(c, item)
 }
 
 // Whether an extent is released: all its references are drops, and none of their leaves is shared.
@@ -128,16 +108,17 @@ pub fn is_released(c: Cut, list: &[u8], shared: &[u8], row: Row) -> bool
     requires { length shared.now ≡ length (items list.now) }
     ensures { result ≡ released (drops_in c (items list.now) shared.now) row }
 {
-    let n = list.len() / item::RECORD;
     let start = row.start;
     let mut drops: u64 = 0;
-    let mut free = true;
-    for i in 0..n {
-        let own = is_drop_of(c, start, item::item_at(list, i));
-        drops += one_if(own);
-        free = both(free, either(!own, shared[i] == 0));
+    for (item, byte) in item::items(list).zip(shared) {
+        if is_drop_of(c, start, item) {
+            if *byte != 0 {
+                return false;
+            }
+            drops += 1;
+        }
     }
-    both(row.references == drops, free)
+    row.references == drops
 }
 
 // The line of one item, if it is a drop of the extent at `start`.
@@ -146,8 +127,7 @@ fn put_line(c: Cut, start: u64, item: Item, out: &mut [u64], n: usize) -> usize
     ensures { Laid ref_numbers 2 n (line_of c start (fields item)) out.old result out.new }
 {
     if is_drop_of(c, start, item) {
-        let offset = item.reference();
-        return plan_lines::put_ref(out, n, start, offset);
+        return plan_lines::put_ref(out, n, start, item.reference());
     }
     n
 }
@@ -158,8 +138,8 @@ fn put_lines(c: Cut, start: u64, list: &[u8], out: &mut [u64], n: usize) -> usiz
     ensures { Laid ref_numbers 2 n (flat_map (line_of c start) (items list.now)) out.old result out.new }
 {
     let mut at = n;
-    for i in 0..list.len() / item::RECORD {
-        at = put_line(c, start, item::item_at(list, i), out, at);
+    for item in item::items(list) {
+        at = put_line(c, start, item, out, at);
     }
     at
 }
@@ -200,8 +180,7 @@ fn put_plain(
     ensures { Laid ref_numbers 2 n (cond release (releases (rows table.now) (drops_in c (items list.now) shared.now)) (unrefs (rows table.now) (drops_in c (items list.now) shared.now))) out.old result out.new }
 {
     let mut at = n;
-    for i in 0..table.len() / 5 {
-        let row = table::row_at(table, i);
+    for row in table::rows(table) {
         at = put_row(c, release, list, shared, row, out, at);
     }
     at
@@ -223,13 +202,11 @@ fn link(
     requires blank { Blank (rows table.now) (in_leaves (items list.now) shared.now) heads.old nexts.old }
     ensures { Linked (taken c) (rows table.now) (in_leaves (items list.now) shared.now) 0 heads.new nexts.new result }
 {
-    let mut i = list.len() / item::RECORD;
     let mut span = RowRange {
         from: table.len() / 5,
         to: 0,
     };
-    while i > 0 {
-        i -= 1;
+    for i in (0..list.len() / item::RECORD).rev() {
         let dropped = is_dropped(c, item::item_at(list, i));
         span = drop_chains::link_item(dropped, list, shared, table, i, heads, nexts, span);
     }
@@ -258,8 +235,10 @@ fn put_linked(
     drop_chains::put_rows(release, list, shared, table, heads, nexts, span, out, n)
 }
 
-// The lines of all rows, with arrays of a size that suffices: for short lists and tables,
-fn put_few(
+// The lines of all rows, with arrays of a size that suffices. It is not built into its caller, so that a call with few rows does
+// not touch the half megabyte of stack that the largest arrays take.
+#[inline(never)]
+fn put_sized<const N: usize>(
     c: Cut,
     release: bool,
     list: &[u8],
@@ -271,65 +250,14 @@ fn put_few(
     requires table_value { table_kept (rows table.now) ≡ true }
     requires shared_len { length shared.now ≡ length (items list.now) }
     requires list_bound { n + length (items list.now) < 2 ^ 64 }
-    requires table_len_bound { (length table.now / 5 ≤ 64) × (length list.now / 70 ≤ 64) }
+    requires size { (length table.now / 5 ≤ N) × (length list.now / 70 ≤ N) × (N ≤ 65536) }
     ensures { Laid ref_numbers 2 n (cond release (releases (rows table.now) (drops_in c (items list.now) shared.now)) (unrefs (rows table.now) (drops_in c (items list.now) shared.now))) out.old result out.new }
 {
-    let mut heads = [0u32; 64];
-    let mut nexts = [0u32; 64];
+    let mut heads = [0u32; N];
+    let mut nexts = [0u32; N];
     put_linked(
         c, release, list, shared, table, &mut heads, &mut nexts, out, n,
     )
-}
-
-// for longer ones,
-fn put_some(
-    c: Cut,
-    release: bool,
-    list: &[u8],
-    shared: &[u8],
-    table: &[u64],
-    out: &mut [u64],
-    n: usize,
-) -> usize
-    requires table_value { table_kept (rows table.now) ≡ true }
-    requires shared_len { length shared.now ≡ length (items list.now) }
-    requires list_bound { n + length (items list.now) < 2 ^ 64 }
-    requires table_len_bound { (length table.now / 5 ≤ 1024) × (length list.now / 70 ≤ 1024) }
-    ensures { Laid ref_numbers 2 n (cond release (releases (rows table.now) (drops_in c (items list.now) shared.now)) (unrefs (rows table.now) (drops_in c (items list.now) shared.now))) out.old result out.new }
-{
-    let mut heads = [0u32; 1024];
-    let mut nexts = [0u32; 1024];
-    put_linked(
-        c, release, list, shared, table, &mut heads, &mut nexts, out, n,
-    )
-}
-
-// and for all that are accepted. It would call itself for a longer table, which is never: a function that calls itself is not built
-// into its caller, and so a call with few rows does not touch the half megabyte of stack that these arrays take.
-fn put_many(
-    c: Cut,
-    release: bool,
-    list: &[u8],
-    shared: &[u8],
-    table: &[u64],
-    out: &mut [u64],
-    n: usize,
-) -> usize
-    requires table_value { table_kept (rows table.now) ≡ true }
-    requires shared_len { length shared.now ≡ length (items list.now) }
-    requires list_bound { n + length (items list.now) < 2 ^ 64 }
-    requires table_len_bound { (length table.now / 5 ≤ 65536) × (length list.now / 70 ≤ 65536) }
-    ensures { Laid ref_numbers 2 n (cond release (releases (rows table.now) (drops_in c (items list.now) shared.now)) (unrefs (rows table.now) (drops_in c (items list.now) shared.now))) out.old result out.new }
-{
-    let mut heads = [0u32; 65536];
-    let mut nexts = [0u32; 65536];
-    let m = put_linked(
-        c, release, list, shared, table, &mut heads, &mut nexts, out, n,
-    );
-    if table.len() / 5 > 65536 {
-        return put_many(c, release, list, shared, table, out, n);
-    }
-    m
 }
 
 // A line for each drop that is a release, or for each that is an unref: by extent start, then in list order.
@@ -347,15 +275,15 @@ pub fn put_drops(
     requires list_bound { n + length (items list.now) < 2 ^ 64 }
     ensures { Laid ref_numbers 2 n (cond release (releases (rows table.now) (drops_in c (items list.now) shared.now)) (unrefs (rows table.now) (drops_in c (items list.now) shared.now))) out.old result out.new }
 {
-    let most = records::upper(table.len() / 5, list.len() / item::RECORD);
+    let most = (table.len() / 5).max(list.len() / item::RECORD);
     if most <= 64 {
-        return put_few(c, release, list, shared, table, out, n);
+        return put_sized::<64>(c, release, list, shared, table, out, n);
     }
     if most <= 1024 {
-        return put_some(c, release, list, shared, table, out, n);
+        return put_sized::<1024>(c, release, list, shared, table, out, n);
     }
     if most <= 65536 {
-        return put_many(c, release, list, shared, table, out, n);
+        return put_sized::<65536>(c, release, list, shared, table, out, n);
     }
     put_plain(c, release, list, shared, table, out, n)
 }

@@ -1,28 +1,38 @@
-use Rattle.ref_def.proofs.Leaves.{leaves_all}
-use Rattle.drop_chains.proofs.Walks.{tally_first}
-use Rattle.drop_lines.proofs.Tallies.{tally_turn, tally-released, one-most, of_extent}
-use Rattle.item.proofs.Laws.{item-decode, items-length}
-use Rattle.item.specs.Items.{fields}
-use mathlib.Core.Path.{◌∙◌}
 use native.Mathlib.Omega.{arith}
+use Rattle.item.specs.Items.{items}
+use Rattle.item.proofs.Laws.{items-length}
+use Rattle.ref_def.specs.Drops.{in_leaves}
+use Rattle.ref_def.proofs.Drops.{leaves-length}
+use Rattle.ref_def.proofs.Leaves.{leaves_more, leaves_end}
+use Rattle.drop_chains.proofs.Walks.{tally_first}
+use Rattle.drop_lines.proofs.Tallies.{of_extent, tally_room, tally_skip, tally_held, tally_more, released-held, released-tally}
 use Rattle.drop_lines.proofs.is_released.Goals as goal
 
-pub loop-i-init : goal.loop-i-init
-loop-i-init c = (omega arith, omega arith, tally_first _ _ _ (leaves_all _ _))
+pub loop-item-init : goal.loop-item-init
+loop-item-init c = tally_first _ _ _ (cc)
 
 pub overflow_add-drops : goal.overflow_add-drops
-overflow_add-drops c = omega (arith, one-most c.is_drop_of-own.result _ c.one_if-drops.ensures)
+overflow_add-drops c =
+    let a = c.args in
+    let all = in_leaves (items a.list.now) a.shared.now in
+    let m = tally_more (of_extent a.c a.row.start) all _ _ _ (leaves_more c.loop-item.item-iterator c.next.new.self _ _ _ c.in-Some.is c.next.ensures.steps) _ c.loop-item.invariant _ c.is_drop_of.ensures c.if-is_drop_of.true c.if-byte-ne0.false in
+    omega (arith, tally_room (of_extent a.c a.row.start) all _ _ m, leaves-length (items a.list.now) a.shared.now c.requires, items-length a.list.now)
 
-pub bounds-shared-i : goal.bounds-shared-i
-bounds-shared-i c = omega (arith, items-length c.args.list.now)
+pub returns-then-byte-ne0 : goal.returns-then-byte-ne0
+returns-then-byte-ne0 c =
+    let a = c.args in
+    released-held a.c a.row (items a.list.now) a.shared.now
+    (tally_held (of_extent a.c a.row.start) _ _ _ _ (leaves_more c.loop-item.item-iterator c.next.new.self _ _ _ c.in-Some.is c.next.ensures.steps) _ c.loop-item.invariant _ c.is_drop_of.ensures c.if-is_drop_of.true c.if-byte-ne0.true)
 
-pub loop-i-preserved : goal.loop-i-preserved
-loop-i-preserved c = let a = c.args in
-    let l = c.loop-i in (
-      omega arith,
-      omega (arith, one-most c.is_drop_of-own.result _ c.one_if-drops.ensures),
-      tally_turn (of_extent a.c a.row.start) _ a.list.now a.shared.now _ _ (fields c.item_at.result) _ _ _ _ _ _ (omega arith) (omega (arith, items-length a.list.now, c.requires)) (item-decode _ _ c.item_at.ensures) c.is_drop_of-own.ensures c.one_if-drops.ensures c.either.ensures c.both-free.ensures l.invariant.2,
-    )
+pub loop-item-preserved-then-is_drop_of : goal.loop-item-preserved-then-is_drop_of
+loop-item-preserved-then-is_drop_of c =
+    let a = c.args in
+    tally_more (of_extent a.c a.row.start) _ _ _ _ (leaves_more c.loop-item.item-iterator c.next.new.self _ _ _ c.in-Some.is c.next.ensures.steps) _ c.loop-item.invariant _ c.is_drop_of.ensures c.if-is_drop_of.true c.if-byte-ne0.false
+
+pub loop-item-preserved : goal.loop-item-preserved
+loop-item-preserved c =
+    let a = c.args in
+    tally_skip (of_extent a.c a.row.start) _ _ _ _ (leaves_more c.loop-item.item-iterator c.next.new.self _ _ _ c.in-Some.is c.next.ensures.steps) _ c.loop-item.invariant _ c.is_drop_of.ensures c.if-is_drop_of.false
 
 pub returns : goal.returns
-returns c = c.both.ensures ∙ tally-released c.args.c c.args.row _ _ _ _ _ _ _ c.loop-i-test.false c.loop-i.invariant.2
+returns c = released-tally c.args.c c.args.row _ _ _ _ (leaves_end c.loop-item.item-iterator c.next.new.self _ c.in-None.is c.next.ensures.steps) c.loop-item.invariant
