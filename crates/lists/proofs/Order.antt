@@ -7,13 +7,14 @@ use Prim.Native.Nat.{ℕ, ◌+◌, ◌<◌, ◌≤◌, ◌^◌}
 use native.Mathlib.Omega.{arith}
 use lib.Dec.{leb, ltb, eqb}
 use borrow.Author.Tests.{ltb-true, leb-true, le-leb, lt-ltb}
+use Rattle.std.specs.Prelude.{Option, Some, None}
 use Rattle.records.specs.Stages.{unless, first, every, pairs}
 use Rattle.records.specs.Raw.{sieve}
 use Rattle.records.proofs.Tests.{both, both_left, both_right, either, either_left, same, implied, imply, first-unless, unless-zero, every_map, every_both}
 use Rattle.item.specs.Items.{Fields, ranged, end}
 use Rattle.lists.specs.declared.Last.{Last}
 use Rattle.lists.specs.Lists.{range_sound, item_sound, rises, apart, list_kept}
-use Rattle.lists.specs.Raw.{begin, follows, turn, next}
+use Rattle.lists.specs.Raw.{begin, is_above, follows, turn, next}
 
 -- ---- one item
 
@@ -55,13 +56,17 @@ module _ (a : Last) (r s : Fields) where
 
   pub follows-before : follows a r ≡ true → follows (next a r) s ≡ true → follows a s ≡ true
   follows-before h k =
-      both (not a.any || ltb a.key s.key) (not (ranged s) || leb a.end s.key)
-      (imply a.any (ltb a.key s.key) (λ q. let p = ltb-true a.key r.key (implied a.any (ltb a.key r.key) (both_left (not a.any || ltb a.key r.key) (not (ranged r) || leb a.end r.key) h) q) in lt-ltb a.key s.key (omega (arith, key-after k))))
+      both (is_above a.key s.key) (not (ranged s) || leb a.end s.key)
+      (above a.key (both_left (is_above a.key r.key) (not (ranged r) || leb a.end r.key) h))
       (imply (ranged s) (leb a.end s.key) (λ q. go (ranged r) refl q))
     where
+      above : (last : Option ℕ) → is_above last r.key ≡ true → is_above last s.key ≡ true
+      above None p = refl
+      above (Some last) p = let q = ltb-true last r.key p in lt-ltb last s.key (omega (arith, key-after k))
+
       go : (b : Bool) → ranged r ≡ b → ranged s ≡ true → leb a.end s.key ≡ true
       go true e q =
-          let p = leb-true a.end r.key (implied (ranged r) (leb a.end r.key) (both_right (not a.any || ltb a.key r.key) (not (ranged r) || leb a.end r.key) h) e) in
+          let p = leb-true a.end r.key (implied (ranged r) (leb a.end r.key) (both_right (is_above a.key r.key) (not (ranged r) || leb a.end r.key) h) e) in
           le-leb a.end s.key (omega (arith, key-after k))
       go false e q = le-leb a.end s.key (omega (arith, end_after k q, next-same e))
 
@@ -92,7 +97,7 @@ module _ (a : Last) (r s : Fields) where
           (implied (ranged s) (leb (end r) s.key || leb (end s) r.key)
           (implied (ranged r) (not (ranged s) || (leb (end r) s.key || leb (end s) r.key)) d e) q)))
       go false e q =
-          let p = leb-true a.end s.key (implied (ranged s) (leb a.end s.key) (both_right (not a.any || ltb a.key s.key) (not (ranged s) || leb a.end s.key) h) q) in
+          let p = leb-true a.end s.key (implied (ranged s) (leb a.end s.key) (both_right (is_above a.key s.key) (not (ranged s) || leb a.end s.key) h) q) in
           le-leb (next a r).end s.key (omega (arith, next-same e))
 
 -- ---- the pass
@@ -189,15 +194,3 @@ every-begin (f ∷ fs) = both (follows begin f) (every (follows begin) fs) (impl
 pub pass_all : (file : ℕ) (fs : List Fields) → sieve (turn file) next begin fs ≡ unless (list_kept file fs) 2
 unfolding list_kept
 pass_all file fs = pass file begin fs ∙ rw (every-begin fs) refl
-
--- ---- a turn's sum fits
-
-pub turn-ends : (file : ℕ) (a : Last) (f : Fields) → turn file a f ≡ 0 → ranged f ≡ true → end f ≤ 2 ^ 63
-turn-ends file a f h r =
-    (item-ranged file f (both_left (item_sound file f) (follows a f) (unless-zero (item_sound file f && follows a f) 2 h (λ e. omega arith))) r).ends
-
-pub next-ranged : (a : Last) (f : Fields) → ranged f ≡ true → record { any = true; key = f.key; end = end f } ≡ next a f
-next-ranged a f h = rw h refl
-
-pub next-other : (a : Last) (f : Fields) → ranged f ≡ false → record { any = true; key = f.key; end = a.end } ≡ next a f
-next-other a f h = rw h refl

@@ -1,4 +1,4 @@
-// The checks of a file's list and of its shared bytes. Each answers 0 or the number of a refusal.
+// The checks of a file's list and of its shared bytes. Each passes or gives its refusal.
 #![tactic(auto, unfolding(records::specs::Stages::first, records::specs::Stages::first_of, records::specs::Stages::stage))]
 
 ghost use Rattle.std.specs.Prelude.{◌≡◌, not, true, ◌||◌, ℕ, ◌+◌, ◌*◌, ◌%◌, ◌^◌, ◌<◌, ◌≤◌, leb, ltb, length, drop};
@@ -8,50 +8,35 @@ ghost use Rattle.item.specs.Items.{fields, item_of, items, ranged};
 ghost use Rattle.lists.specs.Lists.{shared_sound, range_sound, item_sound, list_kept, whole_sectors, record_refusal};
 ghost use Rattle.lists.specs.Raw.{follows, turn, next, list_sized};
 
-use item::Item;
+use item::{Item, RECORD};
 use records::refusal::{Refusal, check};
-use records::{both, either, first, refusal, sum_at_most, sum_fits, unless, whenever};
+use records::sum_at_most;
 
 // ---- refusals
 
 // Refusal 1 of a list: broken length, or over-long.
-pub fn list_size_refusal(list: &[u8]) -> u8
-    ensures { result ≡ unless (list_sized list.now) 1 }
+pub fn list_size_refusal(list: &[u8]) -> Result<(), Refusal>
+    ensures { why result ≡ unless (list_sized list.now) 1 }
 {
     let n = list.len();
-    unless(
-        both(n % item::RECORD == 0, n / item::RECORD <= 65536),
-        refusal::BROKEN,
-    )
-}
-
-fn shared_byte_refusal(b: u8) -> u8
-    ensures { result ≡ unless (leb b 1) 1 }
-{
-    unless(b <= 1, refusal::BROKEN)
-}
-
-// Refusal 1 of shared bytes that are neither 0 nor 1.
-fn shared_bytes_refusal(shared: &[u8]) -> u8
-    ensures { result ≡ unless (every (λ (b : ℕ). leb b 1) shared.now) 1 }
-{
-    for i in 0..shared.len() {
-        let why = shared_byte_refusal(shared[i]);
-        if why != 0 {
-            return why;
-        }
-    }
-    0
+    check(n % RECORD == 0 && n / RECORD <= 65536, Refusal::Broken)
 }
 
 // Refusal 1 of the shared bytes: not one a record, or one that is neither 0 nor 1.
-pub fn shared_refusal(shared: &[u8], list: &[u8]) -> u8
-    ensures { result ≡ unless (shared_sound shared.now (items list.now)) 1 }
+pub fn shared_refusal(shared: &[u8], list: &[u8]) -> Result<(), Refusal>
+    ensures { why result ≡ unless (shared_sound shared.now (items list.now)) 1 }
 {
-    first(
-        unless(shared.len() == list.len() / item::RECORD, refusal::BROKEN),
-        shared_bytes_refusal(shared),
+    check(
+        shared.len() == list.len() / RECORD && are_marks(shared),
+        Refusal::Broken,
     )
+}
+
+// Whether each byte is 0 or 1.
+fn are_marks(shared: &[u8]) -> bool
+    ensures { result ≡ every (λ (b : ℕ). leb b 1) shared.now }
+{
+    shared.iter().all(|b| *b <= 1)
 }
 
 // Whether an item is of kind 1 or 2, whose key and length are a range of the file.
@@ -59,56 +44,50 @@ pub fn is_ranged(item: Item) -> bool
     ensures { result ≡ ranged (fields item) }
 {
     let kind = item.kind();
-    either(kind == 1, kind == 2)
+    kind == 1 || kind == 2
 }
 
 fn range_sound(item: Item) -> bool
     ensures { result ≡ range_sound (fields item) }
 {
     let length = item.length();
-    both(
-        both(
-            1 <= length,
-            sum_at_most(item.key, length, 9223372036854775808),
-        ),
-        sum_fits(item.position(), length),
-    )
+    1 <= length
+        && sum_at_most(item.key, length, 9223372036854775808)
+        && item.position().checked_add(length).is_some()
 }
 
 fn item_sound(file: u64, item: Item) -> bool
     ensures { result ≡ item_sound file (fields item) }
 {
-    both(
-        both(item.file == file, item.key_type == 108),
-        either(!is_ranged(item), range_sound(item)),
-    )
+    item.file == file && item.key_type == 108 && (!is_ranged(item) || range_sound(item))
 }
 
-// What the check of the order keeps of the records that it has passed: whether there was one, the last one's key, and
-// the end of the last range.
+// What the check of the order keeps of the records that it has passed: the last one's key, if there was one, and the end of
+// the last range.
 #[derive(Clone, Copy)]
 pub struct Last {
-    pub any: bool,
-    pub key: u64,
+    pub key: Option<u64>,
     pub end: u64,
+}
+
+impl Last {
+    // Before the first record.
+    pub const BEGIN: Last = Last { key: None, end: 0 };
 }
 
 fn follows(last: Last, item: Item) -> bool
     ensures { result ≡ follows last (fields item) }
 {
-    both(
-        either(!last.any, last.key < item.key),
-        either(!is_ranged(item), last.end <= item.key),
-    )
+    last.key.is_none_or(|key| key < item.key) && (!is_ranged(item) || last.end <= item.key)
 }
 
 // Refusal 2 of an item behind what was passed.
-pub fn turn(file: u64, last: Last, item: Item) -> u8
-    ensures { result ≡ turn file last (fields item) }
+pub fn turn(file: u64, last: Last, item: Item) -> Result<(), Refusal>
+    ensures { why result ≡ turn file last (fields item) }
 {
-    unless(
-        both(item_sound(file, item), follows(last, item)),
-        refusal::NOT_KEPT,
+    check(
+        item_sound(file, item) && follows(last, item),
+        Refusal::NotKept,
     )
 }
 
@@ -117,41 +96,26 @@ pub fn next(file: u64, last: Last, item: Item) -> Last
     requires { turn file last (fields item) ≡ 0 }
     ensures { result ≡ next last (fields item) }
 {
+    let key = Some(item.key);
     if is_ranged(item) {
-        let length = item.length();
-        Last {
-            any: true,
-            key: item.key,
-            end: item.key + length,
-        }
+        let end = item.key + item.length();
+        Last { key, end }
     } else {
-        Last {
-            any: true,
-            key: item.key,
-            end: last.end,
-        }
+        Last { key, end: last.end }
     }
 }
 
 // Refusal 2: a list that is not well kept, sectors aside.
-pub fn list_refusal(list: &[u8], file: u64) -> u8
-    ensures { result ≡ unless (list_kept file (items list.now)) 2 }
+#[tactic(auto, unfolding(records::specs::Raw::sieve, records::specs::Stages::first))]
+pub fn list_refusal(list: &[u8], file: u64) -> Result<(), Refusal>
+    ensures { why result ≡ unless (list_kept file (items list.now)) 2 }
 {
-    let n = list.len() / item::RECORD;
-    let mut last = Last {
-        any: false,
-        key: 0,
-        end: 0,
-    };
-    for i in 0..n {
-        let item = item::item_at(list, i);
-        let why = turn(file, last, item);
-        if why != 0 {
-            return why;
-        }
+    let mut last = Last::BEGIN;
+    for item in item::items(list) {
+        turn(file, last, item)?;
         last = next(file, last, item);
     }
-    0
+    Ok(())
 }
 
 // How far a number is past a whole sector. The usual sector stands as a constant, which the compiler needs no division for.
@@ -168,35 +132,19 @@ pub fn is_whole(item: Item, sector: u64) -> bool
     ensures { result ≡ whole_sectors sector (fields item) }
 {
     let length = item.length();
-    either(
-        !is_ranged(item),
-        both(
-            past_sector(item.key, sector) == 0,
-            past_sector(length, sector) == 0,
-        ),
-    )
-}
-
-fn whole_refusal(item: Item, sector: u64) -> u8
-    requires { 0 < sector }
-    ensures { result ≡ unless (whole_sectors sector (fields item)) 4 }
-{
-    unless(is_whole(item, sector), refusal::SECTOR)
+    !is_ranged(item) || (past_sector(item.key, sector) == 0 && past_sector(length, sector) == 0)
 }
 
 // Refusal 4 of a list: a key or length of kind 1 or 2 that is not whole sectors.
-pub fn sectors_refusal(list: &[u8], sector: u64) -> u8
+#[tactic(auto, unfolding(records::specs::Stages::every))]
+pub fn sectors_refusal(list: &[u8], sector: u64) -> Result<(), Refusal>
     requires { 0 < sector }
-    ensures { result ≡ unless (every (whole_sectors sector) (items list.now)) 4 }
+    ensures { why result ≡ unless (every (whole_sectors sector) (items list.now)) 4 }
 {
-    let n = list.len() / item::RECORD;
-    for i in 0..n {
-        let why = whole_refusal(item::item_at(list, i), sector);
-        if why != 0 {
-            return why;
-        }
+    for item in item::items(list) {
+        check(is_whole(item, sector), Refusal::Sector)?;
     }
-    0
+    Ok(())
 }
 
 // Refusals 7, 8 and 9 of one record.

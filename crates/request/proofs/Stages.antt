@@ -36,12 +36,12 @@ ones-parts list shared table = go (eqb (length list % 70) 0) (leb (length (items
     go true false s true b = unfold first in refl
     go true false s false b = unfold first in refl
 
-pub lent-groups :
+pub lent_groups :
     (v : Volume) (f : File) (list shared table : List ℕ)
     → first (ones list shared table) (first (first (unless (list_kept f.number (items list)) 2) (unless (table_kept (rows table)) 3)) (fours v.sector f.size list))
     ≡ lent v f list shared table
 unfolding lent_refusal first_of
-lent-groups v f list shared table = rw (ones-parts list shared table) (simp (first_assoc, first_last))
+lent_groups v f list shared table = rw (ones-parts list shared table) (simp (first_assoc, first_last))
 
 -- the same with the source's
 source-parts :
@@ -59,13 +59,13 @@ source-parts list shared source table =
     go true false true false x = unfold first in refl
     go true false false t x = unfold first in refl
 
-pub lent-groups2 :
+pub lent_groups2 :
     (v : Volume) (dst src : File) (own : Bool) (list shared source table : List ℕ)
     → first (first (unless (list_sized source) 1) (ones list shared table))
     (first (first (twos dst.number src.number own list source) (unless (table_kept (rows table)) 3)) (fours2 v.sector dst.size src.size list source))
     ≡ lent2 v dst src own list shared source table
 unfolding lent_refusal2 first_of
-lent-groups2 v dst src own list shared source table = rw (source-parts list shared source table) (simp (first_assoc, first_last))
+lent_groups2 v dst src own list shared source table = rw (source-parts list shared source table) (simp (first_assoc, first_last))
 
 -- ---- what acceptance says
 

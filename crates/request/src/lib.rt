@@ -1,13 +1,14 @@
 // What a request is lent, the checks behind refusals 1 to 4, and what an operation answers.
-#![tactic(auto)]
+#![tactic(auto, unfolding(records::specs::Stages::first))]
 
 ghost use Rattle.std.specs.Prelude.{◌≡◌};
+ghost use Rattle.records.specs.Refusals.{why};
 ghost use Rattle.records.specs.Stages.{unless};
 ghost use Rattle.request.specs.Lent.{sector_sound, size_sound, lent, lent2};
 ghost use Rattle.request.specs.Raw.{fours, fours2, ones, twos};
 ghost use Rattle.request.specs.Answers.{number_of};
 
-use records::{either, first, refusal, unless};
+use records::refusal::{Refusal, check};
 
 // The volume: its sector and its size in bytes, the current generation, and that of the last snapshot.
 #[derive(Clone, Copy)]
@@ -70,86 +71,72 @@ pub fn number_of(answer: Answer) -> u8
 pub fn sector_sound(s: u64) -> bool
     ensures { result ≡ sector_sound s }
 {
-    either(
-        s == 4096,
-        either(
-            s == 8192,
-            either(s == 16384, either(s == 32768, s == 65536)),
-        ),
-    )
+    matches!(s, 4096 | 8192 | 16384 | 32768 | 65536)
 }
 
 // Refusal 4 of a file's size.
-pub fn size_refusal(size: u64) -> u8
-    ensures { result ≡ unless (size_sound size) 4 }
+pub fn size_refusal(size: u64) -> Result<(), Refusal>
+    ensures { why result ≡ unless (size_sound size) 4 }
 {
-    unless(size < 9223372036854775808, refusal::SECTOR)
+    check(size < 9223372036854775808, Refusal::Sector)
 }
 
 // Refusals 4 of one file: the sector, its size, the sectors of its list.
-fn fours(sector: u64, size: u64, list: &[u8]) -> u8
-    ensures { result ≡ fours sector size list.now }
+fn fours(sector: u64, size: u64, list: &[u8]) -> Result<(), Refusal>
+    ensures { why result ≡ fours sector size list.now }
 {
     if !sector_sound(sector) {
-        return refusal::SECTOR;
+        return Err(Refusal::Sector);
     }
-    first(size_refusal(size), lists::sectors_refusal(list, sector))
+    size_refusal(size)?;
+    lists::sectors_refusal(list, sector)
 }
 
 // The same of two files.
-fn fours2(sector: u64, size: u64, size2: u64, list: &[u8], source: &[u8]) -> u8
-    ensures { result ≡ fours2 sector size size2 list.now source.now }
+fn fours2(sector: u64, size: u64, size2: u64, list: &[u8], source: &[u8]) -> Result<(), Refusal>
+    ensures { why result ≡ fours2 sector size size2 list.now source.now }
 {
     if !sector_sound(sector) {
-        return refusal::SECTOR;
+        return Err(Refusal::Sector);
     }
-    first(
-        first(size_refusal(size), size_refusal(size2)),
-        first(
-            lists::sectors_refusal(list, sector),
-            lists::sectors_refusal(source, sector),
-        ),
-    )
+    size_refusal(size)?;
+    size_refusal(size2)?;
+    lists::sectors_refusal(list, sector)?;
+    lists::sectors_refusal(source, sector)
 }
 
 // Refusals 1 of a list, its shared bytes and the table.
-fn ones(list: &[u8], shared: &[u8], table: &[u64]) -> u8
-    ensures { result ≡ ones list.now shared.now table.now }
+fn ones(list: &[u8], shared: &[u8], table: &[u64]) -> Result<(), Refusal>
+    ensures { why result ≡ ones list.now shared.now table.now }
 {
-    first(
-        lists::list_size_refusal(list),
-        first(
-            lists::shared_refusal(shared, list),
-            refusal::number_of(table::table_size_refusal(table)),
-        ),
-    )
+    lists::list_size_refusal(list)?;
+    lists::shared_refusal(shared, list)?;
+    table::table_size_refusal(table)
 }
 
 // Refusals 2 of two lists: each is kept, and the second is not the first one's under another name.
-fn twos(number: u64, number2: u64, own: bool, list: &[u8], source: &[u8]) -> u8
-    ensures { result ≡ twos number number2 own list.now source.now }
+fn twos(number: u64, number2: u64, own: bool, list: &[u8], source: &[u8]) -> Result<(), Refusal>
+    ensures { why result ≡ twos number number2 own list.now source.now }
 {
-    first(
-        lists::list_refusal(list, number),
-        first(
-            lists::list_refusal(source, number2),
-            unless(either(own, number2 != number), refusal::NOT_KEPT),
-        ),
-    )
+    lists::list_refusal(list, number)?;
+    lists::list_refusal(source, number2)?;
+    check(own || number2 != number, Refusal::NotKept)
 }
 
 // Refusals 1 to 4 of what a punch or a fallocate is lent.
-pub fn lent_refusal(v: Volume, f: File, list: &[u8], shared: &[u8], table: &[u64]) -> u8
-    ensures { result ≡ lent v f list.now shared.now table.now }
+pub fn lent_refusal(
+    v: Volume,
+    f: File,
+    list: &[u8],
+    shared: &[u8],
+    table: &[u64],
+) -> Result<(), Refusal>
+    ensures { why result ≡ lent v f list.now shared.now table.now }
 {
-    let kept = first(
-        lists::list_refusal(list, f.number),
-        refusal::number_of(table::table_refusal(table)),
-    );
-    first(
-        ones(list, shared, table),
-        first(kept, fours(v.sector, f.size, list)),
-    )
+    ones(list, shared, table)?;
+    lists::list_refusal(list, f.number)?;
+    table::table_refusal(table)?;
+    fours(v.sector, f.size, list)
 }
 
 // Refusals 1 to 4 of what a clone is lent; `own` says that the source is the destination itself.
@@ -162,16 +149,12 @@ pub fn lent_refusal2(
     shared: &[u8],
     source: &[u8],
     table: &[u64],
-) -> u8
-    ensures { result ≡ lent2 v dst src own list.now shared.now source.now table.now }
+) -> Result<(), Refusal>
+    ensures { why result ≡ lent2 v dst src own list.now shared.now source.now table.now }
 {
-    let sizes = first(lists::list_size_refusal(source), ones(list, shared, table));
-    let kept = first(
-        twos(dst.number, src.number, own, list, source),
-        refusal::number_of(table::table_refusal(table)),
-    );
-    first(
-        sizes,
-        first(kept, fours2(v.sector, dst.size, src.size, list, source)),
-    )
+    lists::list_size_refusal(source)?;
+    ones(list, shared, table)?;
+    twos(dst.number, src.number, own, list, source)?;
+    table::table_refusal(table)?;
+    fours2(v.sector, dst.size, src.size, list, source)
 }

@@ -1,10 +1,20 @@
-use mathlib.Core.Path.{◌∙◌, ap₂}
+use Rattle.std.proofs.Common.{rules}
 use Rattle.records.specs.Stages.{first}
-use Rattle.request.proofs.Stages.{lent-groups}
+use Rattle.request.proofs.Stages.{lent_groups}
 use Rattle.request.proofs.lent_refusal.Goals as goal
 
+pub returns-in_err-ones : goal.returns-in_err-ones
+unfolding first
+returns-in_err-ones c = let a = c.args in rw (← lent_groups a.v a.f a.list.now a.shared.now a.table.now) (search rules)
+
+pub returns-in_err-list_refusal : goal.returns-in_err-list_refusal
+unfolding first
+returns-in_err-list_refusal c = let a = c.args in rw (← lent_groups a.v a.f a.list.now a.shared.now a.table.now) (search rules)
+
+pub returns-in_err-table_refusal : goal.returns-in_err-table_refusal
+unfolding first
+returns-in_err-table_refusal c = let a = c.args in rw (← lent_groups a.v a.f a.list.now a.shared.now a.table.now) (search rules)
+
 pub returns : goal.returns
-returns c = let a = c.args in
-    c.first-2.ensures
-    ∙ ap₂ first c.ones.ensures (c.first.ensures ∙ ap₂ first (c.first-kept.ensures ∙ ap₂ first c.list_refusal.ensures (c.number_of.ensures ∙ c.table_refusal.ensures)) c.fours.ensures)
-    ∙ lent-groups a.v a.f a.list.now a.shared.now a.table.now
+unfolding first
+returns c = let a = c.args in rw (← lent_groups a.v a.f a.list.now a.shared.now a.table.now) (search rules)

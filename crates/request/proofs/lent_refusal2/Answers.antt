@@ -1,11 +1,24 @@
-use mathlib.Core.Path.{◌∙◌, ap₂}
+use Rattle.std.proofs.Common.{rules}
 use Rattle.records.specs.Stages.{first}
-use Rattle.request.proofs.Stages.{lent-groups2}
+use Rattle.request.proofs.Stages.{lent_groups2}
 use Rattle.request.proofs.lent_refusal2.Goals as goal
 
+pub returns-in_err-list_size_refusal : goal.returns-in_err-list_size_refusal
+unfolding first
+returns-in_err-list_size_refusal c = let a = c.args in rw (← lent_groups2 a.v a.dst a.src a.own a.list.now a.shared.now a.source.now a.table.now) (search rules)
+
+pub returns-in_err-ones : goal.returns-in_err-ones
+unfolding first
+returns-in_err-ones c = let a = c.args in rw (← lent_groups2 a.v a.dst a.src a.own a.list.now a.shared.now a.source.now a.table.now) (search rules)
+
+pub returns-in_err-twos : goal.returns-in_err-twos
+unfolding first
+returns-in_err-twos c = let a = c.args in rw (← lent_groups2 a.v a.dst a.src a.own a.list.now a.shared.now a.source.now a.table.now) (search rules)
+
+pub returns-in_err-table_refusal : goal.returns-in_err-table_refusal
+unfolding first
+returns-in_err-table_refusal c = let a = c.args in rw (← lent_groups2 a.v a.dst a.src a.own a.list.now a.shared.now a.source.now a.table.now) (search rules)
+
 pub returns : goal.returns
-returns c = let a = c.args in
-    c.first-2.ensures
-    ∙ ap₂ first (c.first-sizes.ensures ∙ ap₂ first c.list_size_refusal.ensures c.ones.ensures)
-    (c.first.ensures ∙ ap₂ first (c.first-kept.ensures ∙ ap₂ first c.twos.ensures (c.number_of.ensures ∙ c.table_refusal.ensures)) c.fours2.ensures)
-    ∙ lent-groups2 a.v a.dst a.src a.own a.list.now a.shared.now a.source.now a.table.now
+unfolding first
+returns c = let a = c.args in rw (← lent_groups2 a.v a.dst a.src a.own a.list.now a.shared.now a.source.now a.table.now) (search rules)
