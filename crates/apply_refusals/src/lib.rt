@@ -74,7 +74,7 @@ fn fours(sector: u64, list: &[u8]) -> u8
     if !request::sector_sound(sector) {
         return refusal::SECTOR;
     }
-    lists::sectors_refusal(list, sector)
+    refusal::number_of(lists::sectors_refusal(list, sector))
 }
 
 // Refusals 2 to 4 of what is lent.
@@ -82,7 +82,7 @@ pub fn lent_refusal(number: u64, sector: u64, list: &[u8], table: &[u64], edits:
     ensures { result ≡ others number sector list.now table.now edits.now }
 {
     first(
-        lists::list_refusal(list, number),
+        refusal::number_of(lists::list_refusal(list, number)),
         first(
             apply_walk::edits_order_refusal(edits),
             first(

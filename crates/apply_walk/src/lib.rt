@@ -164,7 +164,7 @@ fn step_refusal(number: u64, sector: u64, last: Last, origin: Origin, item: Item
         return 0;
     }
     first(
-        lists::turn(number, last, item),
+        refusal::number_of(lists::turn(number, last, item)),
         unless(lists::is_whole(item, sector), refusal::NOT_KEPT),
     )
 }
@@ -188,11 +188,7 @@ pub fn result_refusal(number: u64, sector: u64, list: &[u8], edits: &[u8]) -> u8
     let end = list.len() / item::RECORD + edits.len() / item::EDIT;
     let mut i = 0;
     let mut j = 0;
-    let mut last = Last {
-        any: false,
-        key: 0,
-        end: 0,
-    };
+    let mut last = Last::BEGIN;
     while i + j < end {
         let step = next_record(list, edits, i, j);
         let origin = step.origin;

@@ -53,7 +53,7 @@ fn lent_asked(
 ) -> u8
     ensures { result ≡ lent_asked v dst src own s list.now shared.now source.now table.now }
 {
-    let lent = request::lent_refusal2(v, dst, src, own, list, shared, source, table);
+    let lent = number_of(request::lent_refusal2(v, dst, src, own, list, shared, source, table));
     if lent != 0 {
         return lent;
     }

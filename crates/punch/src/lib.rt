@@ -185,7 +185,7 @@ fn plan_punch(
 pub fn range_refusal(v: Volume, f: File, r: Range, list: &[u8], shared: &[u8], table: &[u64]) -> u8
     ensures { result ≡ range_lent v f r list.now shared.now table.now }
 {
-    let lent = request::lent_refusal(v, f, list, shared, table);
+    let lent = refusal::number_of(request::lent_refusal(v, f, list, shared, table));
     let empty = whenever(r.length == 0, refusal::EMPTY);
     let far = unless(
         sum_at_most(r.offset, r.length, 9223372036854775807),

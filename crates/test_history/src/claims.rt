@@ -39,7 +39,7 @@ pub const NOTHING: u8 = 13;
 
 fn sectors_kept(list: &[u8], sector: u64) -> u8 {
     if 0 < sector {
-        lists::sectors_refusal(list, sector)
+        records::refusal::number_of(lists::sectors_refusal(list, sector))
     } else {
         4
     }
@@ -47,12 +47,12 @@ fn sectors_kept(list: &[u8], sector: u64) -> u8 {
 
 pub fn kept(f: usize, s: &[u64], list: &[u8], rows: &[u64]) -> u8 {
     let sizes = first(
-        lists::list_size_refusal(list),
+        records::refusal::number_of(lists::list_size_refusal(list)),
         records::refusal::number_of(table::table_size_refusal(rows)),
     );
     let number = state::file_number(f);
     let records = first(
-        lists::list_refusal(list, number),
+        records::refusal::number_of(lists::list_refusal(list, number)),
         sectors_kept(list, state::sector(s)),
     );
     let well = unless(first(sizes, records) == 0, LIST_KEPT);

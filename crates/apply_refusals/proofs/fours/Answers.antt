@@ -9,4 +9,4 @@ pub sectors_refusal-requires : goal.sectors_refusal-requires
 sectors_refusal-requires c = sector-some _ (sym c.sector_sound.ensures ∙ c.if-not-sector_sound.false)
 
 pub returns : goal.returns
-returns c = c.sectors_refusal.ensures ∙ sector_go c.args.sector _ (sym c.sector_sound.ensures ∙ c.if-not-sector_sound.false)
+returns c = c.number_of.ensures ∙ c.sectors_refusal.ensures ∙ sector_go c.args.sector _ (sym c.sector_sound.ensures ∙ c.if-not-sector_sound.false)

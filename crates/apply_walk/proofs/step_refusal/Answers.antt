@@ -9,5 +9,5 @@ returns-then-not-is_some c = cond_no _ _ _ 0 c.is_some.ensures c.if-not-is_some.
 
 pub returns : goal.returns
 returns c = c.first.ensures
-    ∙ ap₂ first c.turn.ensures (c.unless.ensures ∙ ap (λ (b : Bool). unless b 2) c.is_whole.ensures)
+    ∙ ap₂ first (c.number_of.ensures ∙ c.turn.ensures) (c.unless.ensures ∙ ap (λ (b : Bool). unless b 2) c.is_whole.ensures)
     ∙ cond_yes _ _ _ 0 c.is_some.ensures c.if-not-is_some.false
