@@ -2,48 +2,57 @@
 use mathlib.Core.Path.{◌≡◌, refl, ap, ◌∙◌, sym}
 use mathlib.Core.Bool.{Bool, true, false, cond, and-false}
 use mathlib.Core.List.{List, [], ◌∷◌, ◌++◌, map, flat_map, map-append, append_assoc, append-nil}
-use Prim.Native.Nat.{ℕ, zero, suc, ◌+◌, ◌-◌, ◌≤◌, ◌<◌, min, max}
+use Prim.Native.Nat.{ℕ, zero, suc, ◌+◌, ◌-◌, ◌≤◌, ◌<◌}
+use Rattle.std.specs.Prelude.{Option, Some, None, MatchOption, unwrap_or}
 use native.Mathlib.Omega.{arith}
-use native.Mathlib.Nat.{add-zero, zero-add, suc-add}
-use native.Mathlib.Numerals.{add-one}
-use lib.Dec.{leb, ltb}
-use lib.ListN.{length, get_or, take, drop}
-use lib.Seq.{drop-cons, drop-length, get_or-take}
-use borrow.Author.Tests.{leb-true, leb-false, ltb-true, le-leb, lt-leb, lt-ltb, le-ltb}
+use native.Mathlib.Nat.{zero-add, suc-add}
+use lib.Dec.{ltb}
+use lib.ListN.{length, get_or, take, drop, length-take, length-drop}
+use lib.Seq.{get_or-take, get_or-drop}
+use borrow.Author.Tests.{leb-true, leb-false, ltb-true, lt-leb, lt-ltb, le-ltb}
 use Rattle.records.specs.Stages.{every}
 use Rattle.records.specs.Select.{only}
 use Rattle.records.proofs.Tests.{both}
-use Rattle.item.specs.Items.{Fields, end, windowed}
+use Rattle.item.specs.Items.{Fields, end}
 use Rattle.cut_def.specs.Cuts.{front, back, cut, touched}
 use Rattle.cut_def.specs.Pieces.{Piece, built, kept, cut_pieces}
 use Rattle.cut_segment.specs.Segments.{nothing, leading, ends_by, starts_by, Runs}
 
--- ---- a front and a back, from what the calls give: p is the position, l the length
+-- ---- how many items lead
 
-pub front_made : (r f : Fields) (lo p l t : ℕ) → p ≡ f.position → l ≡ f.length → t ≡ min (f.key + l) lo → r ≡ windowed f f.file f.key p (t - f.key) → r ≡ front lo f
-front_made r f lo p l t hp hl ht e = e ∙ rw (ht, hp, hl) refl
-
-pub back-made :
-    (r f : Fields) (hi p l k : ℕ) → p ≡ f.position → l ≡ f.length → k ≡ max f.key hi
-    → r ≡ windowed f f.file k (p + (k - f.key)) (f.key + l - k) → r ≡ back hi f
-back-made r f hi p l k hp hl hk e = e ∙ rw (hk, hp, hl) refl
-
--- ---- loops that count leading items: what is left, counted from here, is the whole
-
-module _ (p : Fields → Bool) (l : List Fields) (i : ℕ) (h : i < length l) where
-  leading_cons : leading p (drop i l) ≡ cond (p (get_or l i nothing)) (suc (leading p (drop (i + 1) l))) 0
-  unfolding leading
-  leading_cons = rw (drop-cons l i nothing h, add-one) refl
-
-  pub leading-turn : p (get_or l i nothing) ≡ true → i + 1 + leading p (drop (i + 1) l) ≡ i + leading p (drop i l)
-  leading-turn e = rw (leading_cons, e) (omega arith)
-
-  pub leading_stop : p (get_or l i nothing) ≡ false → i ≡ i + leading p (drop i l)
-  leading_stop e = rw (leading_cons, e) (omega arith)
-
-pub leading-done : (p : Fields → Bool) (l : List Fields) (i : ℕ) → i ≡ length l → i ≡ i + leading p (drop i l)
+-- as many as pass in front of the first that does not
+pub leading_is : (p : Fields → Bool) (l : List Fields) (i : ℕ)
+    → i ≤ length l → ((k : ℕ) → k < i → p (get_or l k nothing) ≡ true) → (i < length l → p (get_or l i nothing) ≡ false) → i ≡ leading p l
 unfolding leading
-leading-done p l i e = rw (e, drop-length, add-zero) refl
+leading_is p [] i h a b = omega arith
+leading_is p (f ∷ l) zero h a b = rw (b (omega arith)) refl
+leading_is p (f ∷ l) (suc i) h a b =
+    let e : i ≡ leading p l = leading_is p l i (omega arith) (λ k q. a (suc k) (omega arith)) (λ q. b (omega arith)) in
+    rw (a 0 (omega arith), ← e) refl
+
+-- the same from number `start` on, of the first n
+pub leading-from : (p : Fields → Bool) (l : List Fields) (start n i : ℕ) → n ≤ length l
+    → start ≤ i → i ≤ n → ((k : ℕ) → start ≤ k → k < i → p (get_or l k nothing) ≡ true) → (i < n → p (get_or l i nothing) ≡ false)
+    → i ≡ start + leading p (drop start (take n l))
+leading-from p l start n i w h m a b =
+    let e : start + (i - start) ≡ i = omega arith in
+    let part : (k : ℕ) → start + k < n → p (get_or (drop start (take n l)) k nothing) ≡ p (get_or l (start + k) nothing) =
+    λ k q. ap p (get_or-drop start (take n l) k nothing ∙ get_or-take n l (start + k) nothing q) in
+    let long : length (drop start (take n l)) ≡ n - start = simp (length-drop, length-take) (omega arith) in
+    omega (
+      arith,
+      leading_is p (drop start (take n l)) (i - start) (omega arith)
+          (λ k q. part k (omega arith) ∙ a (start + k) (omega arith) (omega arith))
+          (λ q. part (i - start) (omega arith) ∙ rw e (b (omega arith))),
+    )
+
+-- what `find` gives of the numbers from `start` up to n, and n where it finds none
+pub leading-found : (p : Fields → Bool) (l : List Fields) (start n i : ℕ) (r : Option ℕ) → (start ≤ n) × (n ≤ length l)
+    → MatchOption r ((k : ℕ) → start ≤ k → k < n → p (get_or l k nothing) ≡ true)
+    (λ m. (start ≤ m) × (m < n) × (p (get_or l m nothing) ≡ false) × ((k : ℕ) → start ≤ k → k < m → p (get_or l k nothing) ≡ true))
+    → i ≡ unwrap_or r n → i ≡ start + leading p (drop start (take n l))
+leading-found p l start n i None h w e = e ∙ leading-from p l start n n h.1 h.0 (omega arith) w (λ q. absurd (omega arith))
+leading-found p l start n i (Some m) h w e = e ∙ leading-from p l start n m h.1 w.0 (omega (arith, w.1)) w.3 (λ q. w.2)
 
 pub leading-most : (p : Fields → Bool) (l : List Fields) → leading p l ≤ length l
 unfolding leading
@@ -63,22 +72,9 @@ every-leading p (f ∷ l) = go (p f) refl (every-leading p l)
     go true e h = both (p f) (every p (take (leading p l) l)) e h
     go false e h = refl
 
--- what a turn's calls say of the item at i, of the first n; l is its length
-pub ends-told : (f g : Fields) (lo l : ℕ) (t : Bool) → f ≡ g → l ≡ f.length → t ≡ leb (f.key + l) lo → ends_by lo g ≡ t
-ends-told f g lo l t e hl ht = sym (ht ∙ ap (λ (x : ℕ). leb (f.key + x) lo) hl ∙ ap (ends_by lo) e)
-
+-- what a test gives of an item, from what the calls give: l is its length
 pub past-told : (f : Fields) (hi l : ℕ) (t : Bool) → l ≡ f.length → t ≡ ltb hi (f.key + l) → ltb hi (end f) ≡ t
 past-told f hi l t hl ht = sym (ht ∙ ap (λ (x : ℕ). ltb hi (f.key + x)) hl)
-
-module _ (s : List Fields) (n i k : ℕ) (f : Fields) (h : i < n) (e : f ≡ get_or s i nothing) where
-  at_take : get_or (take n s) i nothing ≡ f
-  at_take = get_or-take n s i nothing h ∙ sym e
-
-  pub starts-told : f.key ≤ k → starts_by k (get_or (take n s) i nothing) ≡ true
-  starts-told l = rw at_take (le-leb f.key k l)
-
-  pub later_told : k < f.key → starts_by k (get_or (take n s) i nothing) ≡ false
-  later_told l = rw at_take (lt-leb f.key k l)
 
 -- ---- the cut
 

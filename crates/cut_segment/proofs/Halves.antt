@@ -1,60 +1,51 @@
--- A test that is true of the leading items of a list and false of those behind them: the search by halves gives how many
--- lead. Assumes nothing.
-use mathlib.Core.Path.{◌≡◌, refl}
+-- A test that is true of the leading items of a list and false of those behind them: where the library's search by halves
+-- parts the records, so many lead. Assumes nothing.
+use mathlib.Core.Path.{◌≡◌, refl, ap, ◌∙◌, sym}
 use mathlib.Core.Bool.{Bool, true, false, cond}
 use mathlib.Core.List.{List, [], ◌∷◌}
-use Prim.Native.Nat.{ℕ, zero, suc, ◌+◌, ◌≤◌, ◌<◌}
+use Prim.Native.Nat.{ℕ, zero, suc, ◌+◌, ◌/◌, ◌≤◌, ◌<◌}
+use Rattle.std.proofs.Math.Nat.{eq-or-lt_of_le}
+use Rattle.std.proofs.Common.{inl, inr}
 use native.Mathlib.Omega.{arith}
 use lib.ListN.{length, get_or, drop}
-use borrow.Author.Tests.{leb-true, le-leb, lt-leb}
-use Rattle.item.specs.Items.{Fields, end}
-use Rattle.cut_segment.specs.Segments.{nothing, leading, ends_by, starts_by, Runs}
-use Rattle.cut_segment.proofs.Cutting.{leading-most}
+use borrow.Author.Tests.{leb-true, le-leb}
+use Rattle.std.specs.Simd.{first_chunks}
+use Rattle.std.specs.List.Sorted.{IsPartitionedBy, IsPartitionPoint}
+use Rattle.records.specs.Records.{chunks, records}
+use Rattle.item.specs.Items.{Fields, decode, items, end}
+use Rattle.item.proofs.Laws.{items-length}
+use Rattle.item.proofs.Widths.{decode-take}
+use Rattle.cut_segment.specs.Segments.{nothing, leading, ends_by, starts_by, Leads, Runs}
+use Rattle.cut_segment.proofs.Cutting.{leading_is}
 
--- an item in front of one that passes does too
-abbrev pub Leads : (Fields → Bool) → List Fields → Type 0
-Leads p l = (i j : ℕ) → i < j → j < length l → p (get_or l j nothing) ≡ true → p (get_or l i nothing) ≡ true
+-- ---- a list as arrays of 70 bytes
 
-module _ (p : Fields → Bool) where
-  -- item m passes, or it does not
-  passing : (l : List Fields) (m : ℕ) → Leads p l → m < length l → p (get_or l m nothing) ≡ true → m < leading p l
-  unfolding leading
-  passing [] m a h e = absurd (omega arith)
-  passing (f ∷ l) zero a h e = rw e (omega arith)
-  passing (f ∷ l) (suc m) a h e =
-      let n : m < length l = omega arith in
-      let t : p f ≡ true = a 0 (suc m) (omega arith) h e in
-      let r = passing l m (λ i j q u x. a (suc i) (suc j) (omega arith) (omega arith) x) n e in
-      rw t (omega arith)
+array-read : (n : ℕ) (s : List ℕ) (i : ℕ) (d : List ℕ) → i < n → decode (get_or (first_chunks 70 n s) i d) ≡ get_or (chunks decode 70 n s) i nothing
+unfolding chunks
+array-read zero s i d h = absurd (omega arith)
+array-read (suc n) s zero d h = decode-take s
+array-read (suc n) s (suc i) d h = array-read n (drop 70 s) i d (omega arith)
 
-  failing : (l : List Fields) (m : ℕ) → m < length l → p (get_or l m nothing) ≡ false → leading p l ≤ m
-  unfolding leading
-  failing [] m h e = absurd (omega arith)
-  failing (f ∷ l) zero h e = rw e (omega arith)
-  failing (f ∷ l) (suc m) h e = go (p f) (failing l m (omega arith) e)
-    where
-      go : (b : Bool) → leading p l ≤ m → cond b (suc (leading p l)) 0 ≤ suc m
-      go true r = omega arith
-      go false r = omega arith
+abbrev arrays : List ℕ → List (List ℕ)
+arrays s = first_chunks 70 (length s / 70) s
 
--- the number of those that lead lies between low and high
-pub record Halving (p : Fields → Bool) (l : List Fields) (low high : ℕ) : Type 0 where
-  pub least : low ≤ leading p l
-  pub most : leading p l ≤ high
-  pub inside : high ≤ length l
+module _ (p : Fields → Bool) (s : List ℕ) where
+  array-item : (i : ℕ) (d : List ℕ) → i < length s / 70 → p (decode (get_or (arrays s) i d)) ≡ p (get_or (items s) i nothing)
+  unfolding items records
+  array-item i d h = ap p (array-read (length s / 70) s i d h)
 
-pub halving_all : (p : Fields → Bool) (l : List Fields) (n : ℕ) → n ≡ length l → Halving p l 0 n
-halving_all p l n e = record { least = omega arith; most = omega (arith, leading-most p l); inside = omega arith }
+  pub arrays-parted : Leads p (items s) → length (arrays s) ≡ length s / 70 → IsPartitionedBy (λ r. p (decode r)) (arrays s)
+  arrays-parted a e i j d h l t =
+      let passes : p (get_or (items s) j nothing) ≡ true = sym (array-item j d (omega arith)) ∙ t in
+      array-item i d (omega arith) ∙ elim (eq-or-lt_of_le h) [ inl q ↦ rw q passes | inr q ↦ a i j q (omega (arith, items-length s)) passes ]
 
-module _ (p : Fields → Bool) (l : List Fields) (low high m : ℕ) (b : Halving p l low high) (h : m < high) where
-  pub halving_up : Leads p l → p (get_or l m nothing) ≡ true → Halving p l (m + 1) high
-  halving_up a e = let r = passing p l m a (omega (arith, b.inside)) e in record { least = omega arith; most = b.most; inside = b.inside }
-
-  pub halving_down : p (get_or l m nothing) ≡ false → Halving p l low m
-  halving_down e = let r = failing p l m (omega (arith, b.inside)) e in record { least = b.least; most = r; inside = omega (arith, b.inside) }
-
-pub halving_done : (p : Fields → Bool) (l : List Fields) (low high : ℕ) → Halving p l low high → high ≤ low → low ≡ leading p l
-halving_done p l low high b h = omega (arith, b.least, b.most)
+-- where those that pass end, as many lead
+pub point-leading : (p : Fields → Bool) (s : List ℕ) (r : ℕ) → length (arrays s) ≡ length s / 70 → r ≤ length (arrays s)
+    → IsPartitionPoint (λ y. p (decode y) ≡ true) (λ y. p (decode y) ≡ false) (arrays s) r → r ≡ leading p (items s)
+point-leading p s r e h k =
+    leading_is p (items s) r (omega (arith, items-length s))
+    (λ j q. sym (array-item p s j [] (omega arith)) ∙ k.0 j [] (omega arith) q)
+    (λ q. sym (array-item p s r [] (omega (arith, items-length s))) ∙ k.1 r [] (omega arith) (omega (arith, items-length s)))
 
 -- ---- items that run one behind the other: each ends at most where one behind it starts
 
@@ -83,13 +74,6 @@ module _ (fs : List Fields) (r : Runs 0 fs) (k : ℕ) where
       let y : Fields = get_or fs j nothing in
       let o : end x ≤ y.key = runs-order 0 fs i j r q h in
       le-leb x.key k (omega (arith, leb-true y.key k e))
-
--- what a turn says of the item's key
-pub key_by : (f g : Fields) (k : ℕ) → f ≡ g → f.key ≤ k → starts_by k g ≡ true
-key_by f g k e h = rw (← e) (le-leb f.key k h)
-
-pub key-past : (f g : Fields) (k : ℕ) → f ≡ g → k < f.key → starts_by k g ≡ false
-key-past f g k e h = rw (← e) (lt-leb f.key k h)
 
 -- ---- one test after another
 

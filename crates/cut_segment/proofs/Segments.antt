@@ -3,6 +3,9 @@ use mathlib.Core.Path.{◌≡◌, refl, ap, ◌∙◌, sym}
 use mathlib.Core.Bool.{Bool, true, false, cond}
 use mathlib.Core.List.{List, [], ◌∷◌, ◌++◌, append_assoc}
 use Prim.Native.Nat.{ℕ, zero, suc, ◌+◌, ◌-◌, ◌^◌, ◌≤◌, ◌<◌}
+use Rattle.std.specs.declared.ops.Range.{Range}
+use Rattle.std.proofs.Common.{inl, inr}
+use Rattle.std.proofs.lemmas.Bool.{cases_lt}
 use native.Mathlib.Omega.{arith}
 use native.Mathlib.Nat.{add-zero}
 use lib.Dec.{ltb}
@@ -20,7 +23,7 @@ use Rattle.cut_def.specs.Raw.{replaced}
 use Rattle.lists.specs.Lists.{list_kept}
 use Rattle.lists.proofs.Laws.{kept}
 use Rattle.cut_def.proofs.Kept.{From, kept_from}
-use Rattle.cut_segment.specs.Segments.{nothing, item_at, leading, ends_by, starts_by, starts_past, bounded, Runs, Added, Around, Cutting}
+use Rattle.cut_segment.specs.Segments.{nothing, item_at, leading, ends_by, starts_by, starts_past, bounded, Runs, Added, Around, Touching, Cutting}
 use Rattle.cut_segment.proofs.Buffer.{added-few}
 use Rattle.cut_segment.proofs.Halves.{leading-on}
 use Rattle.cut_segment.proofs.Cutting.{leading-most, every-leading, cut_empty, cut_whole, leaves}
@@ -88,7 +91,7 @@ added_both n m k xs ys s s' s'' p q =
     }
 
 -- no item, in place of none
-pub cut-nothing : (lo hi : ℕ) (list seg : List ℕ) → hi ≤ lo → Runs 0 (items list) → Cutting lo hi list (record { from = 0; to = 0; count = 0 }) seg
+cut-nothing : (lo hi : ℕ) (list seg : List ℕ) → hi ≤ lo → Runs 0 (items list) → Cutting lo hi list (record { from = 0; to = 0; count = 0 }) seg
 unfolding every
 cut-nothing lo hi list seg h r =
     record {
@@ -185,3 +188,17 @@ module _ (lo hi : ℕ) (list : List ℕ) (from to : ℕ) (some : lo < hi) (r : R
               };
           around = cut_around m;
         }
+
+-- ---- the same, from what `touched` gives
+
+module _ (lo hi : ℕ) (list : List ℕ) (found : Range ℕ) (r : Runs 0 (items list)) (t : Touching lo hi (items list) found) where
+  pub cut-untouched : (seg : List ℕ) → found.start ≡ found.end → Cutting lo hi list (record { from = found.start; to = found.end; count = 0 }) seg
+  cut-untouched seg e =
+      elim (cases_lt lo hi) [
+        | inl some ↦ cut-none lo hi list found.start found.end some r (t.first some) (t.last some) seg e
+        | inr none ↦ rw ((t.none none).0, (t.none none).1) (cut-nothing lo hi list seg none r)
+      ]
+
+  -- where records are touched the range is not empty
+  pub cut-range : found.start < found.end → lo < hi
+  cut-range h = elim (cases_lt lo hi) [ inl some ↦ some | inr none ↦ absurd (omega (arith, (t.none none).1)) ]

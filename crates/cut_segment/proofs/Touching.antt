@@ -18,18 +18,21 @@ use Rattle.cut_segment.proofs.Segments.{past-leading}
 
 module _ (lo hi : ℕ) (fs : List Fields) where
   -- an empty range touches nothing
-  pub touching_none : hi ≤ lo → Touching lo hi fs (record { from = 0; to = 0 })
+  pub touching_none : hi ≤ lo → Touching lo hi fs (record { start = 0; «end» = 0 })
   touching_none h =
       record {
         order = omega arith;
         inside = omega arith;
         before = unfold every in refl;
         behind = at_every (untouched lo hi) nothing fs (λ i l. rw (le-ltb lo hi h) refl);
+        none = λ e. (refl, refl);
+        first = λ l. absurd (omega arith);
+        last = λ l. absurd (omega arith);
       }
 
   pub touching-some :
       (from to : ℕ) → lo < hi → Runs 0 fs → from ≡ leading (ends_by lo) fs → to ≡ leading (starts_by (hi - 1)) fs
-      → Touching lo hi fs (record { from = from; to = to })
+      → Touching lo hi fs (record { start = from; «end» = to })
   touching-some from to some r hf ht =
       let on = leading-on (ends_by lo) (starts_by (hi - 1)) (λ f e. le-leb f.key (hi - 1) (omega (arith, leb-true (end f) lo e))) fs in
       let ended : (f : Fields) → ends_by lo f ≡ true → untouched lo hi f ≡ true = λ f e. rw (le-ltb lo (end f) (leb-true (end f) lo e), and-false (ltb lo hi)) refl in
@@ -40,4 +43,7 @@ module _ (lo hi : ℕ) (fs : List Fields) where
         inside = omega (arith, leading-most (starts_by (hi - 1)) fs);
         before = rw hf (every_map (ends_by lo) (untouched lo hi) ended (take (leading (ends_by lo) fs) fs) (every-leading (ends_by lo) fs));
         behind = rw ht (every_map (starts_past (hi - 1)) (untouched lo hi) past (drop (leading (starts_by (hi - 1)) fs) fs) (past-leading (hi - 1) (hi - 1) 0 fs r (omega arith)));
+        none = λ e. absurd (omega arith);
+        first = λ l. hf;
+        last = λ l. ht;
       }

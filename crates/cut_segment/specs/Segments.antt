@@ -1,12 +1,14 @@
 -- For the code only: a segment: the few items of a file's list that a change makes anew, in a buffer beside the lent list.
-use Rattle.std.specs.Prelude.{◌≡◌, Bool, true, cond, not, List, [], ◌∷◌, ◌++◌, ℕ, suc, ◌+◌, ◌^◌, ◌≤◌, ◌<◌, leb, ltb, length, get_or, take, drop}
+use Rattle.std.specs.Prelude.{◌≡◌, Bool, true, cond, not, List, [], ◌∷◌, ◌++◌, ℕ, suc, ◌+◌, ◌-◌, ◌^◌, ◌≤◌, ◌<◌, leb, ltb, length, get_or, take, drop}
+use denote.Param.Members.{Shared}
 use Rattle.records.specs.Stages.{every}
-use Rattle.item.specs.Items.{Fields, items, end, regular_item}
+use Rattle.item.specs.Items.{Fields, fields, items, end, regular_item}
+use Rattle.item.specs.declared.Item.{Item}
 use Rattle.cut_def.specs.Cuts.{touched}
 use Rattle.cut_def.specs.Pieces.{Piece, cut_pieces}
 use Rattle.cut_def.specs.Raw.{replaced}
 use Rattle.cut_segment.specs.declared.Segment.{Segment}
-use Rattle.cut_segment.specs.declared.RecordRange.{RecordRange}
+use Rattle.std.specs.declared.ops.Range.{Range}
 
 -- what stands for an item past a list's end
 abbrev pub nothing : Fields
@@ -27,6 +29,14 @@ pieces list s seg = replaced (items list) s.from s.to (segment_of s seg)
 unfoldable pub leading : (Fields → Bool) → List Fields → ℕ
 leading p [] = 0
 leading p (f ∷ fs) = cond (p f) (suc (leading p fs)) 0
+
+-- an item in front of one that passes does too
+abbrev pub Leads : (Fields → Bool) → List Fields → Type 0
+Leads p l = (i j : ℕ) → i < j → j < length l → p (get_or l j nothing) ≡ true → p (get_or l i nothing) ≡ true
+
+-- a closure answers what a test says of each item
+abbrev pub Answers : {F : Type 0} → Shared F (Item × Unit {0}) Bool → F → (Fields → Bool) → Type 0
+Answers g f p = (i : Item) (r : Bool) → g.post f (i, tt) r → r ≡ p (fields i)
 
 -- an item ends at most at lo; it starts at most at k
 abbrev pub ends_by : ℕ → Fields → Bool
@@ -65,15 +75,18 @@ pub record Around (k : ℕ) (list : List ℕ) (s : Segment) : Type 0 where
   pub before : every (starts_by k) (take s.from (items list)) ≡ true
   pub behind : every (starts_past k) (drop s.to (items list)) ≡ true
 
--- all that a cut of [lo, hi) touches is among records from..to
+-- all that a cut of [lo, hi) touches is among these records: those before them end at most at lo, those behind start at hi or later
 abbrev pub untouched : ℕ → ℕ → Fields → Bool
 untouched lo hi f = not (touched lo hi f)
 
-pub record Touching (lo hi : ℕ) (fs : List Fields) (s : RecordRange) : Type 0 where
-  pub order : s.from ≤ s.to
-  pub inside : s.to ≤ length fs
-  pub before : every (untouched lo hi) (take s.from fs) ≡ true
-  pub behind : every (untouched lo hi) (drop s.to fs) ≡ true
+pub record Touching (lo hi : ℕ) (fs : List Fields) (s : Range ℕ) : Type 0 where
+  pub order : s.start ≤ s.end
+  pub inside : s.end ≤ length fs
+  pub before : every (untouched lo hi) (take s.start fs) ≡ true
+  pub behind : every (untouched lo hi) (drop s.end fs) ≡ true
+  pub none : hi ≤ lo → (s.start ≡ 0) × (s.end ≡ 0)
+  pub first : lo < hi → s.start ≡ leading (ends_by lo) fs
+  pub last : lo < hi → s.end ≡ leading (starts_by (hi - 1)) fs
 
 -- what a cut of [lo, hi) gives
 pub record Cutting (lo hi : ℕ) (list : List ℕ) (s : Segment) (seg : List ℕ) : Type 0 where

@@ -2,29 +2,24 @@
 // the lent list, which is not copied.
 #![tactic(auto)]
 
-ghost use Rattle.std.specs.Prelude.{◌≡◌, [], ◌∷◌, ◌++◌, ◌+◌, ◌-◌, ◌*◌, ◌≤◌, ◌<◌, ◌^◌, ltb, length, set, take, drop};
+ghost use Rattle.std.specs.Prelude.{◌≡◌, Bool, [], ◌∷◌, ◌++◌, ◌+◌, ◌-◌, ◌*◌, ◌≤◌, ◌<◌, ◌^◌, ltb, length, set, take, drop};
 ghost use Rattle.records.specs.Lent.{old, new};
 ghost use Rattle.records.specs.Select.{only};
-ghost use Rattle.item.specs.Items.{fields, items, end};
+ghost use Rattle.item.specs.Items.{Fields, fields, items, end};
 ghost use Rattle.cut_def.specs.Cuts.{front, back};
-ghost use Rattle.cut_segment.specs.Segments.{item_at, Added, leading, ends_by, starts_by, Runs, Touching, Cutting, Inserted};
+ghost use Rattle.cut_segment.specs.Segments.{item_at, Added, leading, ends_by, starts_by, Leads, Answers, Runs, Touching, Cutting, Inserted};
 
-use item::Item;
+use item::{Item, RECORD};
 use records::{sum_at_most, sum_past};
+use std::ops::Range;
 
-// Records from..to of a list make way for the first `count` records of a buffer.
+// Records from..to of a list make way for the first `count` records of a buffer. They are no `Range`: that is not `Copy`, and
+// a segment is handed on from step to step.
 #[derive(Clone, Copy)]
 pub struct Segment {
     pub from: usize,
     pub to: usize,
     pub count: usize,
-}
-
-// Records from..to of a list.
-#[derive(Clone, Copy)]
-pub struct RecordRange {
-    pub from: usize,
-    pub to: usize,
 }
 
 // ---- a buffer of records
@@ -42,7 +37,7 @@ pub fn put_record(seg: &mut [u8], n: usize, item: Item)
     requires { n < length (items seg.old) }
     ensures { items seg.new ≡ set (items seg.old) n (fields item) }
 {
-    item::put_item(seg, n * item::RECORD, item);
+    item::put_item(seg, n * RECORD, item);
 }
 
 // One item behind the n records of a buffer.
@@ -61,7 +56,7 @@ pub fn front_of(lo: u64, item: Item) -> Item
     requires { ((fields item).key ≤ lo) × (end (fields item) < 2 ^ 64) }
     ensures { fields result ≡ front lo (fields item) }
 {
-    let top = records::smaller(item.key + item.length(), lo);
+    let top = (item.key + item.length()).min(lo);
     let position = item.position();
     item.windowed(item.file, item.key, position, top - item.key)
 }
@@ -72,7 +67,7 @@ pub fn back_of(hi: u64, item: Item) -> Item
     ensures { fields result ≡ back hi (fields item) }
 {
     let end = item.key + item.length();
-    let key = records::larger(item.key, hi);
+    let key = item.key.max(hi);
     let start = item.position();
     let position = start + (key - item.key);
     item.windowed(item.file, key, position, end - key)
@@ -100,42 +95,29 @@ fn put_back(seg: &mut [u8], n: usize, hi: u64, item: Item) -> usize
     append(seg, n, back_of(hi, item))
 }
 
-// How many records of a list end at most at lo: by halves, as those that do lead.
+// How many records of a list pass a test, where those that do stand in front of all others: by halves.
+fn leading<P: Fn(Item) -> bool>(list: &[u8], passes: P) -> usize
+    requires { P.IsAlwaysCallable passes }
+    ensures { (p : Fields → Bool) → Answers P.Fn passes p → Leads p (items list.now) → result ≡ leading p (items list.now) }
+{
+    let (records, _) = list.as_chunks::<RECORD>();
+    records.partition_point(|record| passes(item::item_at(record, 0)))
+}
+
+// How many records of a list end at most at lo.
 pub fn ending_by(list: &[u8], lo: u64) -> usize
     requires { Runs 0 (items list.now) }
     ensures { result ≡ leading (ends_by lo) (items list.now) }
 {
-    let mut low = 0;
-    let mut high = list.len() / item::RECORD;
-    while low < high {
-        let mid = low + (high - low) / 2;
-        let item = record_at(list, mid);
-        if sum_at_most(item.key, item.length(), lo) {
-            low = mid + 1;
-        } else {
-            high = mid;
-        }
-    }
-    low
+    leading(list, |item| sum_at_most(item.key, item.length(), lo))
 }
 
-// How many start at most at a key, by halves too.
+// How many start at most at a key.
 fn started_by(list: &[u8], key: u64) -> usize
     requires { Runs 0 (items list.now) }
     ensures { result ≡ leading (starts_by key) (items list.now) }
 {
-    let mut low = 0;
-    let mut high = list.len() / item::RECORD;
-    while low < high {
-        let mid = low + (high - low) / 2;
-        let item = record_at(list, mid);
-        if item.key <= key {
-            low = mid + 1;
-        } else {
-            high = mid;
-        }
-    }
-    low
+    leading(list, |item| item.key <= key)
 }
 
 // The number of the first of n records, from `start` on, that starts past a key; n where there is none.
@@ -143,26 +125,20 @@ pub fn starting_by(list: &[u8], start: usize, n: usize, key: u64) -> usize
     requires { (start ≤ n) × (n ≤ length (items list.now)) }
     ensures { result ≡ start + leading (starts_by key) (drop start (take n (items list.now))) }
 {
-    for i in start..n {
-        let item = record_at(list, i);
-        if item.key > key {
-            return i;
-        }
-    }
-    n
+    (start..n)
+        .find(|i| record_at(list, *i).key > key)
+        .unwrap_or(n)
 }
 
-// The records that [lo, hi) touches stand one behind the other.
-pub fn touched(list: &[u8], lo: u64, hi: u64) -> RecordRange
+// The records that [lo, hi) touches, which stand one behind the other.
+pub fn touched(list: &[u8], lo: u64, hi: u64) -> Range<usize>
     requires { Runs 0 (items list.now) }
     ensures { Touching lo hi (items list.now) result }
 {
     if hi <= lo {
-        return RecordRange { from: 0, to: 0 };
+        return 0..0;
     }
-    let from = ending_by(list, lo);
-    let to = started_by(list, hi - 1);
-    RecordRange { from, to }
+    ending_by(list, lo)..started_by(list, hi - 1)
 }
 
 // [lo, hi) taken out of a list: the records that it touches make way for the first one's front and the last one's back.
@@ -170,21 +146,14 @@ pub fn cut_segment(list: &[u8], lo: u64, hi: u64, seg: &mut [u8]) -> Segment
     requires { Runs 0 (items list.now) × (140 ≤ length seg.old) }
     ensures { Cutting lo hi list.now result seg.new }
 {
-    if hi <= lo {
-        return Segment {
-            from: 0,
-            to: 0,
-            count: 0,
-        };
-    }
-    let from = ending_by(list, lo);
-    let to = started_by(list, hi - 1);
+    let found = touched(list, lo, hi);
+    let from = found.start;
+    let to = found.end;
     if from == to {
         return Segment { from, to, count: 0 };
     }
-    let last = to - 1;
     let n = put_front(seg, 0, lo, record_at(list, from));
-    let m = put_back(seg, n, hi, record_at(list, last));
+    let m = put_back(seg, n, hi, record_at(list, to - 1));
     Segment { from, to, count: m }
 }
 

@@ -1,24 +1,21 @@
-use mathlib.Core.Path.{◌≡◌, ◌∙◌, sym, refl}
-use lib.Seq.{length-take-le}
-use Rattle.cut_segment.proofs.Cutting.{leading-turn, leading_stop, leading-done, starts-told, later_told}
-use Rattle.item.specs.Items.{items}
-use native.Mathlib.Omega.{arith}
+use Rattle.std.proofs.Common.{rules, ◌≡◌, ℕ, true, false, sym}
+use Rattle.std.proofs.lemmas.Iterator.{first_from_Range}
+use lib.Dec.{ltb}
+use borrow.Author.Tests.{ltb-true, ltb-false, le-leb, lt-leb}
+use Rattle.item.specs.declared.Item.{Item}
+use Rattle.item.specs.Items.{Fields, fields, items}
+use Rattle.cut_segment.specs.Segments.{item_at, starts_by}
+use Rattle.cut_segment.proofs.Cutting.{leading-found}
 use Rattle.cut_segment.proofs.starting_by.Goals as goal
 
-pub loop-i-init : goal.loop-i-init
-loop-i-init c = (omega arith, refl)
+key-past : (f : Fields) (r : Item) (k : ℕ) → fields r ≡ f → true ≡ ltb k r.key → starts_by k f ≡ false
+key-past f r k e h = rw (← e) (lt-leb r.key k (ltb-true k r.key (sym h)))
 
-pub returns-then-item-key : goal.returns-then-item-key
-returns-then-item-key c = let a = c.args in
-    let l = c.loop-i in
-    leading_stop _ _ _ (omega (arith, length-take-le a.n (items a.list.now) c.requires.1)) (later_told _ a.n l.i _ _ (omega arith) c.record_at-item.ensures c.if-item-key.true) ∙ l.invariant.1
-
-pub loop-i-preserved : goal.loop-i-preserved
-loop-i-preserved c = let a = c.args in
-    let l = c.loop-i in
-    (omega arith, leading-turn _ _ _ (omega (arith, length-take-le a.n (items a.list.now) c.requires.1)) (starts-told _ a.n l.i _ _ (omega arith) c.record_at-item.ensures c.if-item-key.false) ∙ l.invariant.1)
+key_by : (f : Fields) (r : Item) (k : ℕ) → fields r ≡ f → false ≡ ltb k r.key → starts_by k f ≡ true
+key_by f r k e h = rw (← e) (le-leb r.key k (ltb-false k r.key (sym h)))
 
 pub returns : goal.returns
 returns c = let a = c.args in
-    let e : c.loop-i.i ≡ a.n = omega arith in
-    sym e ∙ leading-done _ _ _ (e ∙ sym (length-take-le a.n (items a.list.now) c.requires.1)) ∙ c.loop-i.invariant.1
+    leading-found (starts_by a.key) (items a.list.now) a.start a.n _ _ c.requires
+    (first_from_Range _ _ _ _ (λ i. starts_by a.key (item_at a.list.now i) ≡ false) (λ i. starts_by a.key (item_at a.list.now i) ≡ true) c.find.ensures.ran (λ x q k. search (rules, key-past)) (λ x q k. search (rules, key_by)))
+    c.unwrap_or.ensures

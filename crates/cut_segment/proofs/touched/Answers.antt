@@ -6,4 +6,4 @@ pub returns-then-hi-lo : goal.returns-then-hi-lo
 returns-then-hi-lo c = touching_none _ _ _ c.if-hi-lo.true
 
 pub returns : goal.returns
-returns c = touching-some _ _ _ _ _ (omega arith) c.requires c.ending_by-from.ensures c.started_by-to.ensures
+returns c = touching-some _ _ _ _ _ (omega arith) c.requires c.ending_by.ensures c.started_by.ensures
