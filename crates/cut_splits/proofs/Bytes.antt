@@ -1,17 +1,13 @@
--- The loop of the byte count. Assumes nothing.
-use mathlib.Core.Path.{◌≡◌, refl}
-use mathlib.Core.List.{List}
-use Prim.Native.Nat.{ℕ, ◌+◌, ◌*◌, ◌<◌, ◌≤◌}
-use lib.ListN.{drop}
-use Rattle.records.proofs.Loops.{rest, rest_cons, rest_nil}
-use Rattle.item.specs.Items.{Fields, decode}
+-- The loop of the byte count: what is left, with its next item and without one. Assumes nothing.
+use Rattle.std.proofs.Common.{◌≡◌, ◌+◌, List, [], ◌∷◌, ap}
+use Rattle.item.specs.Items.{Fields}
 use Rattle.cut_def.specs.Pieces.{counted_bytes}
 use Rattle.cut_splits.specs.Splits.{counted}
 
-pub bytes-turn : (s : List ℕ) (n i : ℕ) (f : Fields) (x : ℕ) → i < n → f ≡ decode (drop (i * 70) s) → x ≡ counted f → x + counted_bytes (rest decode 70 s n (i + 1)) ≡ counted_bytes (rest decode 70 s n i)
+pub bytes_next : (l : List Fields) (f : Fields) (l' : List Fields) → l ≡ f ∷ l' → counted_bytes l ≡ counted f + counted_bytes l'
 unfolding counted_bytes
-bytes-turn s n i f x h e p = rw (rest_cons decode 70 s n i h, p, e) refl
+bytes_next l f l' e = ap counted_bytes e
 
-pub bytes-done : (s : List ℕ) (n i : ℕ) → n ≤ i → counted_bytes (rest decode 70 s n i) ≡ 0
+pub bytes_none : (l : List Fields) → l ≡ [] → counted_bytes l ≡ 0
 unfolding counted_bytes
-bytes-done s n i h = rw (rest_nil decode 70 s n i h) refl
+bytes_none l e = ap counted_bytes e

@@ -1,9 +1,10 @@
 // A cut's splits and the byte count, over lent slices.
-#![tactic(auto)]
+#![tactic(auto, unfolding(records::specs::Stages::first, records::specs::Stages::stage, records::specs::Select::any))]
 
 ghost use Rattle.std.specs.Prelude.{◌≡◌, true, [], ◌∷◌, map, ◌+◌, ◌<◌, ◌^◌, length};
 ghost use Rattle.records.specs.Lent.{old, new};
 ghost use Rattle.records.specs.Select.{keep};
+ghost use Rattle.records.specs.Refusals.{why};
 ghost use Rattle.records.specs.Stages.{stage};
 ghost use Rattle.item.specs.Items.{fields, items};
 ghost use Rattle.table.specs.Rows.{rows, table_kept, one_more_reference};
@@ -15,35 +16,30 @@ ghost use Rattle.plan_lines.specs.Lines.{Laid};
 ghost use Rattle.cut_splits.specs.Splits.{split_refusal, elsewhere, shared, split_share, counted};
 
 use item::Item;
-use records::{both, either};
+use records::refusal::Refusal;
 
 // ---- splits: items that a cut leaves on both sides
 
 // The refusal of one more reference to an item's extent, if the cut of [lo, hi) splits it.
-fn split_refusal(table: &[u64], lo: u64, hi: u64, item: Item) -> u8
+fn split_refusal(table: &[u64], lo: u64, hi: u64, item: Item) -> Result<(), Refusal>
     requires { table_kept (rows table.now) ≡ true }
-    ensures { result ≡ split_refusal lo hi (rows table.now) (fields item) }
+    ensures { why result ≡ split_refusal lo hi (rows table.now) (fields item) }
 {
     if cut_def::is_split(lo, hi, item) {
-        records::refusal::number_of(table::one_more_reference(table, item.extent_start()))
-    } else {
-        0
+        table::one_more_reference(table, item.extent_start())?;
     }
+    Ok(())
 }
 
 // The first refusal of a split's share, in the list's order.
-pub fn splits_refusal(list: &[u8], table: &[u64], lo: u64, hi: u64) -> u8
+pub fn splits_refusal(list: &[u8], table: &[u64], lo: u64, hi: u64) -> Result<(), Refusal>
     requires { table_kept (rows table.now) ≡ true }
-    ensures { result ≡ stage (λ (q : Ref). one_more_reference q.start (rows table.now)) (map ref_of (keep (split lo hi) (items list.now))) }
+    ensures { why result ≡ stage (λ (q : Ref). one_more_reference q.start (rows table.now)) (map ref_of (keep (split lo hi) (items list.now))) }
 {
-    let n = list.len() / item::RECORD;
-    for i in 0..n {
-        let why = split_refusal(table, lo, hi, item::item_at(list, i));
-        if why != 0 {
-            return why;
-        }
+    for item in item::items(list) {
+        split_refusal(table, lo, hi, item)?;
     }
-    0
+    Ok(())
 }
 
 // Whether an item is split and its extent is none of two.
@@ -51,10 +47,7 @@ fn is_shared(item: Item, lo: u64, hi: u64, one: u64, two: u64) -> bool
     ensures { result ≡ shared lo hi one two (fields item) }
 {
     let start = item.extent_start();
-    both(
-        cut_def::is_split(lo, hi, item),
-        !either(start == one, start == two),
-    )
+    cut_def::is_split(lo, hi, item) && !(start == one || start == two)
 }
 
 fn put_split(item: Item, lo: u64, hi: u64, one: u64, two: u64, out: &mut [u64], n: usize) -> usize
@@ -81,10 +74,9 @@ pub fn put_splits(
     requires { n + length (items list.now) < 2 ^ 64 }
     ensures { Laid ref_numbers 2 n (keep (elsewhere (one ∷ two ∷ [])) (map ref_of (keep (split lo hi) (items list.now)))) out.old result out.new }
 {
-    let k = list.len() / item::RECORD;
     let mut m = n;
-    for i in 0..k {
-        m = put_split(item::item_at(list, i), lo, hi, one, two, out, m);
+    for item in item::items(list) {
+        m = put_split(item, lo, hi, one, two, out, m);
     }
     m
 }
@@ -106,10 +98,9 @@ pub fn counted_bytes(list: &[u8]) -> u64
     requires { counted_bytes (items list.now) < 2 ^ 64 }
     ensures { result ≡ counted_bytes (items list.now) }
 {
-    let n = list.len() / item::RECORD;
     let mut sum: u64 = 0;
-    for i in 0..n {
-        sum += counted(item::item_at(list, i));
+    for item in item::items(list) {
+        sum += counted(item);
     }
     sum
 }

@@ -3,7 +3,7 @@
 use mathlib.Core.Path.{◌≡◌, refl, ap, ◌∙◌, sym}
 use mathlib.Core.Bool.{Bool, true, false, ◌&&◌, not}
 use mathlib.Core.List.{List, [], ◌∷◌, append-nil}
-use Prim.Native.Nat.{ℕ, zero, suc, ◌+◌, ◌-◌, ◌*◌, ◌≤◌}
+use Prim.Native.Nat.{ℕ, zero, suc, ◌+◌, ◌-◌, ◌≤◌}
 use native.Mathlib.Omega.{arith}
 use lib.Dec.{leb, ltb}
 use lib.ListN.{length, take, drop, take-append-drop, length-take, length-drop}
@@ -13,22 +13,17 @@ use Rattle.records.specs.Stages.{every}
 use Rattle.records.specs.Select.{keep}
 use Rattle.records.proofs.Tests.{both, both_left, both_right, every_map}
 use Rattle.records.proofs.Picks.{keep_append, keep-none}
-use Rattle.item.specs.Items.{Fields, items, hole, end}
-use Rattle.item.proofs.Laws.{items-length}
+use Rattle.item.specs.Items.{Fields, hole, end}
 use Rattle.cut_def.specs.Cuts.{touched, covered, split}
-use Rattle.cut_segment.specs.declared.RecordRange.{RecordRange}
+use Rattle.std.specs.declared.ops.Range.{Range}
 use Rattle.cut_segment.specs.Segments.{untouched, Touching}
-use Rattle.cut_segment.proofs.Spans.{items-part}
 use Rattle.ref_def.specs.Compared.{among}
 use Rattle.ref_def.specs.Drops.{InLeaf, in_leaves}
 use Rattle.drop_lines.specs.declared.Cut.{Cut}
+use Rattle.cut_touched.specs.Parts.{part, TouchedPart}
 use Rattle.drop_lines.specs.Dropped.{taken, dropped, drops_in}
 
 -- ---- general
-
--- items a up to b of a list
-abbrev pub part : {A : Type 0} → ℕ → ℕ → List A → List A
-part a b l = take (b - a) (drop a l)
 
 module _ {A : Type 0} (p : A → Bool) (l : List A) (a b : ℕ) (h : a ≤ b) where
   pub keep-part : every (λ (x : A). not (p x)) (take a l) ≡ true → every (λ (x : A). not (p x)) (drop b l) ≡ true → keep p (part a b l) ≡ keep p l
@@ -92,45 +87,49 @@ unmet false b h e = refl
 
 -- ---- the touched part of a list
 
-module _ (lo hi : ℕ) (list : List ℕ) (s : RecordRange) (t : Touching lo hi (items list) s) where
-  pub part_room : s.to * 70 ≤ length list
-  part_room = omega (arith, items-length list, t.inside)
-
-  pub part-items : items (take (s.to * 70 - s.from * 70) (drop (s.from * 70) list)) ≡ part s.from s.to (items list)
-  part-items = items-part list s.from s.to t.order part_room
-
-  pub part-most : length (part s.from s.to (items list)) ≤ length (items list)
+module _ (lo hi : ℕ) (fs : List Fields) (s : Range ℕ) (t : Touching lo hi fs s) where
+  pub part-most : length (part s.start s.end fs) ≤ length fs
   part-most = simp (length-take, length-drop) (omega arith)
 
-  -- one shared byte a record
-  pub part_bytes : (bs : List ℕ) → length bs ≡ length (items list) → length (part s.from s.to bs) ≡ length (part s.from s.to (items list))
-  part_bytes bs e = simp (length-take, length-drop) (omega arith)
-
-  pub part_splits : keep (split lo hi) (part s.from s.to (items list)) ≡ keep (split lo hi) (items list)
+  pub part_splits : keep (split lo hi) (part s.start s.end fs) ≡ keep (split lo hi) fs
   part_splits =
       let m : (f : Fields) → untouched lo hi f ≡ true → not (split lo hi f) ≡ true = λ f e. unmet (split lo hi f) (touched lo hi f) (split-touched lo hi f) e in
-      keep-part (split lo hi) (items list) s.from s.to t.order
-      (every_map (untouched lo hi) (λ (f : Fields). not (split lo hi f)) m (take s.from (items list)) t.before)
-      (every_map (untouched lo hi) (λ (f : Fields). not (split lo hi f)) m (drop s.to (items list)) t.behind)
+      keep-part (split lo hi) fs s.start s.end t.order
+      (every_map (untouched lo hi) (λ (f : Fields). not (split lo hi f)) m (take s.start fs) t.before)
+      (every_map (untouched lo hi) (λ (f : Fields). not (split lo hi f)) m (drop s.end fs) t.behind)
 
-module _ (k : Cut) (list : List ℕ) (s : RecordRange) (t : Touching k.lo k.hi (items list) s) where
-  pub part-drops : (bs : List ℕ) → drops_in k (part s.from s.to (items list)) (part s.from s.to bs) ≡ drops_in k (items list) bs
+-- one shared byte a record
+pub part_sized : (fs : List Fields) (s : Range ℕ) (bs : List ℕ) → length bs ≡ length fs → length (part s.start s.end bs) ≡ length (part s.start s.end fs)
+part_sized fs s bs e = simp (length-take, length-drop) (omega arith)
+
+module _ (k : Cut) (fs : List Fields) (s : Range ℕ) (t : Touching k.lo k.hi fs s) where
+  pub part-drops : (bs : List ℕ) → drops_in k (part s.start s.end fs) (part s.start s.end bs) ≡ drops_in k fs bs
   part-drops bs =
-      let fs : List Fields = items list in
       let u : InLeaf → Bool = λ h. untouched k.lo k.hi h.item in
       let m : (h : InLeaf) → untouched k.lo k.hi h.item ≡ true → not (dropped k h) ≡ true = λ h e. unmet (dropped k h) (touched k.lo k.hi h.item) (taken-touched k h.item) e in
-      let e : in_leaves (part s.from s.to (items list)) (part s.from s.to bs) ≡ part s.from s.to (in_leaves (items list) bs) =
-      leaves-take (s.to - s.from) (drop s.from (items list)) (drop s.from bs) ∙ ap (take (s.to - s.from)) (leaves-drop s.from (items list) bs) in
+      let e : in_leaves (part s.start s.end fs) (part s.start s.end bs) ≡ part s.start s.end (in_leaves fs bs) =
+      leaves-take (s.end - s.start) (drop s.start fs) (drop s.start bs) ∙ ap (take (s.end - s.start)) (leaves-drop s.start fs bs) in
       ap (keep (dropped k)) e
-      ∙ keep-part (dropped k) (in_leaves (items list) bs) s.from s.to t.order
-      (every_map (λ (h : InLeaf). untouched k.lo k.hi h.item) (λ (h : InLeaf). not (dropped k h)) m (take s.from (in_leaves (items list) bs))
-      (rw leaves-take at (leaves-every (untouched k.lo k.hi) (take s.from (items list)) (take s.from bs) t.before)))
-      (every_map (λ (h : InLeaf). untouched k.lo k.hi h.item) (λ (h : InLeaf). not (dropped k h)) m (drop s.to (in_leaves (items list) bs))
-      (rw leaves-drop at (leaves-every (untouched k.lo k.hi) (drop s.to (items list)) (drop s.to bs) t.behind)))
+      ∙ keep-part (dropped k) (in_leaves fs bs) s.start s.end t.order
+      (every_map (λ (h : InLeaf). untouched k.lo k.hi h.item) (λ (h : InLeaf). not (dropped k h)) m (take s.start (in_leaves fs bs))
+      (rw leaves-take at (leaves-every (untouched k.lo k.hi) (take s.start fs) (take s.start bs) t.before)))
+      (every_map (λ (h : InLeaf). untouched k.lo k.hi h.item) (λ (h : InLeaf). not (dropped k h)) m (drop s.end (in_leaves fs bs))
+      (rw leaves-drop at (leaves-every (untouched k.lo k.hi) (drop s.end fs) (drop s.end bs) t.behind)))
 
-  -- as the code lends it
-  pub part-dropped : (bs : List ℕ) → drops_in k (items (take (s.to * 70 - s.from * 70) (drop (s.from * 70) list))) (take (s.to - s.from) (drop s.from bs)) ≡ drops_in k (items list) bs
-  part-dropped bs = rw (part-items k.lo k.hi list s t) (part-drops bs)
+-- ---- the same of what `touched_part` gives
 
-  pub part-sized : (bs : List ℕ) → length bs ≡ length (items list) → length (take (s.to - s.from) (drop s.from bs)) ≡ length (items (take (s.to * 70 - s.from * 70) (drop (s.from * 70) list)))
-  part-sized bs e = rw (part-items k.lo k.hi list s t) (part_bytes k.lo k.hi list s t bs e)
+module _ (lo hi : ℕ) (fs gs : List Fields) (p : TouchedPart lo hi fs gs) where
+  pub touched-most : length gs ≤ length fs
+  touched-most = rw p.those (part-most lo hi fs p.range p.all)
+
+  pub touched_splits : keep (split lo hi) gs ≡ keep (split lo hi) fs
+  touched_splits = ap (keep (split lo hi)) p.those ∙ part_splits lo hi fs p.range p.all
+
+-- a refusal of the part's drops is one of all
+pub touched-drops :
+    (k : Cut) (fs gs : List Fields) → TouchedPart k.lo k.hi fs gs → (f : List InLeaf → ℕ) (r : ℕ)
+    → ((bs : List ℕ) → length bs ≡ length gs → r ≡ f (drops_in k gs bs)) → (bs : List ℕ) → length bs ≡ length fs → r ≡ f (drops_in k fs bs)
+touched-drops k fs gs p f r h bs e =
+    let s = p.range in
+    let n : length (part s.start s.end bs) ≡ length gs = part_sized fs s bs e ∙ ap length (sym p.those) in
+    h (part s.start s.end bs) n ∙ ap (λ (l : List Fields). f (drops_in k l (part s.start s.end bs))) p.those ∙ ap f (part-drops k fs s p.all bs)

@@ -1,6 +1,8 @@
 -- What a reader has left, at the end and behind a record.
 use Rattle.std.proofs.Common.{◌≡◌, ℕ, ◌+◌, ◌*◌, ◌/◌, ◌<◌, ◌≤◌, [], ◌∷◌, length, drop, ap, sym, ◌∙◌}
-use mathlib.Core.Path.{ap₂}
+use Rattle.std.specs.Prelude.{Option, Some, None}
+use Rattle.std.specs.Iterator.{YieldsFirstBy}
+use mathlib.Core.Path.{ap₂, subst}
 use denote.Bor.{now}
 use Rattle.std.proofs.lemmas.List.{at_drop_more, at_drop_all}
 use native.Mathlib.Omega.{arith}
@@ -18,3 +20,10 @@ pub left_more : (r s : Reader) → r.number < length r.list.now / 70 → (item :
 left_more r s h item e o n =
     at_drop_more (λ l. l) (items r.list.now) r.number (fields item) (omega (arith, items-length r.list.now))
     ∙ ap₂ (λ f l. f ∷ l) (items_at r.list.now r.number (fields item) h ∙ sym (item-decode item _ e)) (ap₂ (λ k b. drop k (items b)) (sym n) (ap now (sym o)))
+
+-- what a loop over a reader has of its next item, and at the end
+pub next_left : (r s : Reader) (o : Option Item) (item : Item) → o ≡ Some item → YieldsFirstBy fields left r o s → left r ≡ fields item ∷ left s
+next_left r s o item e h = subst (λ (o : Option Item). YieldsFirstBy fields left r o s) e h
+
+pub none_left : (r s : Reader) (o : Option Item) → o ≡ None → YieldsFirstBy fields left r o s → left r ≡ []
+none_left r s o e h = (subst (λ (o : Option Item). YieldsFirstBy fields left r o s) e h).0
