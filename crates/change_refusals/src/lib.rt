@@ -90,9 +90,9 @@ pub fn change_refusal(
     if v.generation == 18446744073709551615 {
         return refusal::GENERATION;
     }
-    let split = cut_touched::splits_refusal(list, table, c.lo, c.hi);
+    let split = records::refusal::number_of(cut_touched::splits_refusal(list, table, c.lo, c.hi));
     let rewrite = rewrites_refusal(v, f, c, list, shared, table);
     let share = shares_refusal(v, c, p, list, table);
-    let drop = cut_touched::drops_refusal(change_lines::cut_of(c, p), list, table);
+    let drop = records::refusal::number_of(cut_touched::drops_refusal(change_lines::cut_of(c, p), list, table));
     first(split, first(rewrite, first(share, drop)))
 }

@@ -83,8 +83,8 @@ fn copies_asked(generation: u64, c: Copying, list: &[u8], source: &[u8], table: 
     ensures { (bs : List ℕ) → length bs ≡ length (items list.now) → result ≡ copies_asked generation c (items list.now) bs (items source.now) (rows table.now) }
 {
     let k = clone_lay::cut_for(c);
-    let drop = cut_touched::drops_refusal(k, list, table);
-    let split = cut_touched::splits_refusal(list, table, k.lo, k.hi);
+    let drop = number_of(cut_touched::drops_refusal(k, list, table));
+    let split = number_of(cut_touched::splits_refusal(list, table, k.lo, k.hi));
     let records = number_of(clone_items::source_records(c, table, source));
     let last = whenever(generation == 18446744073709551615, refusal::GENERATION);
     first(drop, first(split, first(records, last)))

@@ -3,5 +3,14 @@ use Rattle.item.proofs.Laws.{items-length}
 use Rattle.cut_segment.proofs.Spans.{items-part}
 use Rattle.cut_touched.proofs.records_in.Goals as goal
 
+pub overflow_mul-result : goal.overflow_mul-result
+overflow_mul-result c = omega (arith, items-length c.args.list.now)
+
+pub overflow_mul-result-2 : goal.overflow_mul-result-2
+overflow_mul-result-2 c = omega (arith, items-length c.args.list.now)
+
+pub slice_bounds-result-end : goal.slice_bounds-result-end
+slice_bounds-result-end c = omega (arith, items-length c.args.list.now)
+
 pub returns : goal.returns
 returns c = items-part c.args.list.now _ _ c.requires.0 (omega (arith, items-length c.args.list.now))
