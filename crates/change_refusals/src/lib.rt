@@ -93,6 +93,10 @@ pub fn change_refusal(
     let split = records::refusal::number_of(cut_touched::splits_refusal(list, table, c.lo, c.hi));
     let rewrite = rewrites_refusal(v, f, c, list, shared, table);
     let share = shares_refusal(v, c, p, list, table);
-    let drop = records::refusal::number_of(cut_touched::drops_refusal(change_lines::cut_of(c, p), list, table));
+    let drop = records::refusal::number_of(cut_touched::drops_refusal(
+        change_lines::cut_of(c, p),
+        list,
+        table,
+    ));
     first(split, first(rewrite, first(share, drop)))
 }
