@@ -6,15 +6,22 @@ use Prim.Native.Nat.{ℕ, ◌+◌, ◌*◌, ◌/◌, ◌<◌, ◌≤◌}
 use native.Mathlib.Omega.{arith}
 use native.Mathlib.Decide.{dec_lt}
 use lib.Dec.{eqb}
-use lib.ListN.{length, take, drop, take-append-drop}
-use borrow.Author.Tests.{not-true}
-use Rattle.records.specs.Stages.{pairs}
+use lib.ListN.{length, take, drop, get_or, take-append-drop, length-drop, drop_of_length-le}
+use denote.Bor.{now}
+use denote.Ref.{Bor}
+use mathlib.Core.Path.{ap₂}
+use Rattle.std.specs.Prelude.{Some, None, position, nat_lt}
+use Rattle.std.specs.List.{position_or_len}
+use Rattle.std.proofs.lemmas.List.{drop-drop, get_or-drop}
+use Rattle.std.proofs.lemmas.List.Quantifiers.{position-Some}
+use borrow.Author.Tests.{not-true, ltb-false}
+use Rattle.records.specs.Stages.{every, pairs}
 use Rattle.records.specs.Select.{only, keep}
 use Rattle.records.proofs.Tests.{both_left, both_right, implied, every-at}
-use Rattle.records.proofs.Loops.{rest, rest_cons, rest_nil}
-use Rattle.item.specs.declared.Item.{Item}
-use Rattle.item.specs.Items.{Fields, decode, items, fields, item_of, hole, reference}
-use Rattle.item.proofs.Laws.{items-length, items_at, item-decode}
+use Rattle.item.specs.declared.reader.Reader.{Reader}
+use Rattle.item.specs.Reading.{left}
+use Rattle.item.specs.Items.{Fields, decode, items, hole, reference}
+use Rattle.item.proofs.Laws.{items-length, items_at}
 use Rattle.lists.specs.Lists.{range_sound, rises}
 use Rattle.records.proofs.Lists.{pairs_parts}
 use Rattle.records.proofs.Picks.{keep_append}
@@ -41,15 +48,29 @@ copy_able c f i s h =
 copied_solid : (c : Copying) (f : Fields) → copied c f ≡ true → hole f ≡ false
 copied_solid c f h = not-true (hole f) (both_right (overlaps c f) (not (hole f)) (both_right (not (eqb f.kind 0)) (overlaps c f && not (hole f)) h))
 
--- an item that is read from a source
-pub sound_read : (c : Copying) (s : List ℕ) (i : ℕ) (r : Item) → Copyables c (items s) → i < length s / 70 → r ≡ item_of (drop (i * 70) s) → copy_sound c (fields r) ≡ true
-sound_read c s i r h l p =
-    ap (copy_sound c) (item-decode r (drop (i * 70) s) p ∙ sym (items_at s i (fields r) l))
-    ∙ every-at (copy_sound c) (items s) h.sound i (fields r) (rw items-length l)
+-- the first of items that are sound where they are copied, and those behind it
+pub sound_first : (c : Copying) (l : List Fields) (f : Fields) (fs : List Fields) → l ≡ f ∷ fs → every (copy_sound c) l ≡ true → (copy_sound c f ≡ true) × (every (copy_sound c) fs ≡ true)
+unfolding every
+sound_first c l f fs e h = let x = rw e at h in (both_left (copy_sound c f) (every (copy_sound c) fs) x, both_right (copy_sound c f) (every (copy_sound c) fs) x)
 
--- and one that the walk has come to
-pub able_read : (c : Copying) (s : List ℕ) (k : ℕ) (r : Item) → Copyables c (items s) → Settled c s k → k < length s / 70 → r ≡ item_of (drop (k * 70) s) → Copyable c (fields r)
-able_read c s k r h w l p = copy_able c (fields r) h.inside (sound_read c s k r h l p) (ap (copied c) (item-decode r (drop (k * 70) s) p) ∙ w.there l)
+-- what a reader at record k reads
+pub read_from : (r : Reader) (s : Bor (List ℕ)) (k : ℕ) → (r.list ≡ s) × (r.number ≡ k) → left r ≡ from s.now k
+read_from r s k e = ap₂ (λ i b. drop i (items b)) e.1 (ap now e.0)
+
+pub first_read : (s : List ℕ) (k : ℕ) (f : Fields) (fs : List Fields) → from s k ≡ f ∷ fs → (k < length s / 70) × (f ≡ decode (drop (k * 70) s))
+first_read s k f fs e =
+    elim (dec_lt k (length s / 70)) [
+      | yes l ↦ (l, let x : f ∷ fs ≡ decode (drop (k * 70) s) ∷ from s (k + 1) = sym e ∙ from_cons s k l in cc)
+      | no m ↦ let x : [] ≡ f ∷ fs = sym (from_nil s k (omega arith)) ∙ e in absurd cc
+    ]
+
+-- an item that the walk has come to
+pub able_read : (c : Copying) (s : List ℕ) (k : ℕ) (f : Fields) (fs : List Fields) → Copyables c (items s) → Settled c s k → from s k ≡ f ∷ fs → Copyable c f
+able_read c s k f fs h w e =
+    let r = first_read s k f fs e in
+    let l : k < length (items s) = omega (arith, r.0, items-length s) in
+    let at : f ≡ get_or (items s) k f = r.1 ∙ sym (items_at s k f r.0) in
+    copy_able c f h.inside (ap (copy_sound c) at ∙ every-at (copy_sound c) (items s) h.sound k f l) (ap (copied c) r.1 ∙ w.there r.0)
 
 -- its copy's numbers
 pub copy_ref : (c : Copying) (f g : Fields) (start offset : ℕ) → g ≡ clone_item c f → start ≡ g.extent_start → offset ≡ reference g → record { start = start; offset = offset } ≡ ref_of (clone_item c f)
@@ -79,7 +100,7 @@ shares_flat c (f ∷ fs) = go (copied c f) (shares_flat c fs)
     go true ih = ap (λ (l : List Ref). ref_of (clone_item c f) ∷ l) ih
     go false ih = ih
 
-bytes_cons : (c : Copying) (f : Fields) (fs : List Fields) → counted_bytes (clones c (f ∷ fs)) ≡ copy_bytes c f + counted_bytes (clones c fs)
+pub bytes_cons : (c : Copying) (f : Fields) (fs : List Fields) → counted_bytes (clones c (f ∷ fs)) ≡ copy_bytes c f + counted_bytes (clones c fs)
 unfolding counted_bytes keep
 bytes_cons c f fs = go (copied c f) refl
   where
@@ -87,13 +108,9 @@ bytes_cons c f fs = go (copied c f) refl
     go true e = rw (copied_solid c f e) refl
     go false e = omega arith
 
-module _ (c : Copying) (s : List ℕ) (n i : ℕ) where
-  pub bytes-turn : (f : Fields) (x : ℕ) → i < n → f ≡ decode (drop (i * 70) s) → x ≡ copy_bytes c f → x + counted_bytes (clones c (rest decode 70 s n (i + 1))) ≡ counted_bytes (clones c (rest decode 70 s n i))
-  bytes-turn f x h e p = rw (rest_cons decode 70 s n i h, ← e, p) (sym (bytes_cons c f (rest decode 70 s n (i + 1))))
-
-  pub bytes-done : n ≤ i → counted_bytes (clones c (rest decode 70 s n i)) ≡ 0
-  unfolding counted_bytes keep
-  bytes-done h = rw (rest_nil decode 70 s n i h) refl
+pub bytes_none : (c : Copying) (fs : List Fields) → fs ≡ [] → counted_bytes (clones c fs) ≡ 0
+unfolding counted_bytes keep
+bytes_none c fs e = rw e refl
 
 -- ---- the walk
 
@@ -106,32 +123,59 @@ module _ (c : Copying) (s : List ℕ) where
   pub walk_copied : (k : ℕ) → k < length s / 70 → copied c (decode (drop (k * 70) s)) ≡ true → clones c (from s k) ≡ clone_item c (decode (drop (k * 70) s)) ∷ clones c (from s (k + 1))
   walk_copied k h e = rw (from_cons s k h) (clones-yes c (decode (drop (k * 70) s)) (from s (k + 1)) e)
 
-  pub walk_passed : (k : ℕ) (f : Fields) → k < length s / 70 → f ≡ decode (drop (k * 70) s) → copied c f ≡ false → clones c (from s (k + 1)) ≡ clones c (from s k)
-  walk_passed k f h p e = sym (rw (from_cons s k h, ← p) (clones-no c f (from s (k + 1)) e))
+  -- the records before the first one that is copied add nothing
+  passed : (fs : List Fields) → clones c (drop (position_or_len (copied c) fs) fs) ≡ clones c fs
+  passed [] = refl
+  passed (f ∷ fs) = go (copied c f) refl (passed fs)
+    where
+      go : (b : Bool) → copied c f ≡ b → clones c (drop (position_or_len (copied c) fs) fs) ≡ clones c fs → clones c (drop (cond (not b) (1 + position_or_len (copied c) fs) 0) (f ∷ fs)) ≡ clones c (f ∷ fs)
+      go true e ih = refl
+      go false e ih = ap (clones c) (sym (drop-drop (position_or_len (copied c) fs) 1 (f ∷ fs))) ∙ ih ∙ sym (clones-no c f fs e)
 
   -- what a search gives
-  pub sought_at : (k i : ℕ) (f : Fields) → k ≤ i → i < length s / 70 → f ≡ decode (drop (i * 70) s) → copied c f ≡ true → clones c (from s i) ≡ clones c (from s k) → Sought c s k i
-  sought_at k i f l h p e same = record { least = l; settled = record { most = omega arith; there = λ t. sym (ap (copied c) p) ∙ e }; same = same }
-
-  pub sought_none : (k i n : ℕ) → n ≡ length s / 70 → k ≤ i → i ≤ n → n ≤ i → clones c (from s i) ≡ clones c (from s k) → Sought c s k n
-  sought_none k i n e l u h same =
+  pub sought_at : (k d : ℕ) → position (copied c) (from s k) ≡ Some d → Sought c s k (k + d)
+  sought_at k d e =
+      let p = position-Some (copied c) (from s k) d (decode s) e in
+      let l : k + d < length s / 70 = omega (arith, p.0, length-drop k (items s), items-length s) in
       record {
         least = omega arith;
-        settled = record { most = omega arith; there = λ t. absurd (omega arith) };
-        same = walk_end n (omega arith) ∙ sym (walk_end i (omega arith)) ∙ same;
+        settled = record { most = omega arith; there = λ t. ap (copied c) (sym (items_at s (k + d) (decode s) l)) ∙ ap (copied c) (sym (get_or-drop k (items s) d (decode s))) ∙ p.1 };
+        same = ap (clones c) (sym (drop-drop d k (items s))) ∙ ap (λ (n : ℕ). clones c (drop n (from s k))) (place (nat_lt (position_or_len (copied c) (from s k)) (length (from s k))) e) ∙ passed (from s k);
       }
+    where
+      place : (b : Bool) → cond b (Some (position_or_len (copied c) (from s k))) None ≡ Some d → d ≡ position_or_len (copied c) (from s k)
+      place true e = cc
+      place false e = absurd cc
+
+  pub sought_none : (k n : ℕ) → n ≡ length s / 70 → k ≤ n → position (copied c) (from s k) ≡ None → Sought c s k n
+  sought_none k n m h e =
+      record {
+        least = h;
+        settled = record { most = omega arith; there = λ t. absurd (omega arith) };
+        same =
+            walk_end n (omega arith)
+            ∙ sym (walk_end (k + length (from s k)) (omega (arith, length-drop k (items s), items-length s)))
+            ∙ ap (clones c) (sym (drop-drop (length (from s k)) k (items s)))
+            ∙ past (nat_lt (position_or_len (copied c) (from s k)) (length (from s k))) refl e
+            ∙ passed (from s k);
+      }
+    where
+      past : (b : Bool) → nat_lt (position_or_len (copied c) (from s k)) (length (from s k)) ≡ b → cond b (Some (position_or_len (copied c) (from s k))) None ≡ None
+          → clones c (drop (length (from s k)) (from s k)) ≡ clones c (drop (position_or_len (copied c) (from s k)) (from s k))
+      past true l z = absurd cc
+      past false l z =
+          let n : length (from s k) ≤ position_or_len (copied c) (from s k) = ltb-false (position_or_len (copied c) (from s k)) (length (from s k)) l in
+          ap (clones c) (drop_of_length-le (from s k) {i = length (from s k)} (omega arith) ∙ sym (drop_of_length-le (from s k) {i = position_or_len (copied c) (from s k)} n))
 
 -- ---- whether a copy is the first of the new items
 
 pub leads-end : (t : List ℕ) (j key : ℕ) → length t / 70 ≤ j → true ≡ leads key (from t j)
 leads-end t j key h = rw (from_nil t j h) refl
 
-pub leads-at : (t : List ℕ) (j key : ℕ) (g : Fields) (b : Bool) → j < length t / 70 → g ≡ decode (drop (j * 70) t) → b ≡ lib.Dec.ltb key g.key → b ≡ leads key (from t j)
-leads-at t j key g b h e p = p ∙ rw (from_cons t j h, e) refl
-
 module _ (c : Copying) (s t : List ℕ) (j k : ℕ) (w : Settled c s k) where
-  pub copy_none : length s / 70 ≤ k → false ≡ comes_first (clones c (from s k)) (from t j)
-  copy_none h = rw (walk_end c s k h) refl
+  pub copy_none : from s k ≡ [] → comes_first (clones c (from s k)) (from t j) ≡ false
+  unfolding keep
+  copy_none h = rw h refl
 
   pub copy_leads : (g : Fields) (b : Bool) → k < length s / 70 → g ≡ clone_item c (decode (drop (k * 70) s)) → b ≡ leads g.key (from t j) → b ≡ comes_first (clones c (from s k)) (from t j)
   copy_leads g b h e p = rw (walk_copied c s k h (w.there h)) (go (from t j) (p ∙ rw e refl))
@@ -140,14 +184,7 @@ module _ (c : Copying) (s t : List ℕ) (j k : ℕ) (w : Settled c s k) where
       go [] q = q
       go (x ∷ xs) q = q
 
-  -- a copy that comes first is there; where none does and the segment has ended, none is left
-  pub copy_some : (b : Bool) → b ≡ comes_first (clones c (from s k)) (from t j) → b ≡ true → k < length s / 70
-  copy_some b e h =
-      elim (dec_lt k (length s / 70)) [
-        | yes l ↦ l
-        | no m ↦ absurd (false≢true (copy_none (omega arith) ∙ sym e ∙ h))
-      ]
-
+  -- where none comes first and the segment has ended, none is left
   pub copy_gone : (b : Bool) → b ≡ comes_first (clones c (from s k)) (from t j) → b ≡ false → length t / 70 ≤ j → length s / 70 ≤ k
   copy_gone b e h l =
       elim (dec_lt k (length s / 70)) [

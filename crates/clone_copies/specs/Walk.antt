@@ -1,8 +1,9 @@
 -- For the code only: the copies of a source list, one behind the other, with nothing stored: from record k on, which is copied or is the
 -- end; and the steps of a merge with them.
-use Rattle.std.specs.Prelude.{◌≡◌, Bool, true, false, cond, ◌||◌, not, List, [], ◌∷◌, ℕ, ◌+◌, ◌*◌, ◌/◌, ◌≤◌, ◌<◌, ◌^◌, ltb, length, drop}
+use Rattle.std.specs.Prelude.{Option, Some, None, ◌≡◌, Bool, true, false, cond, ◌||◌, not, List, [], ◌∷◌, ℕ, ◌+◌, ◌*◌, ◌/◌, ◌≤◌, ◌<◌, ◌^◌, ltb, length, drop}
 use Rattle.records.specs.Stages.{every, pairs}
 use Rattle.records.specs.Select.{only}
+use Rattle.item.specs.declared.Item.{Item}
 use Rattle.item.specs.Items.{Fields, fields, decode, items}
 use Rattle.lists.specs.Lists.{range_sound, rises}
 use Rattle.cut_def.specs.Pieces.{Piece, items_of}
@@ -12,7 +13,7 @@ use Rattle.plan_def.specs.Outputs.{edit_bytes}
 use Rattle.plan_lines.specs.Lines.{Laid}
 use Rattle.edit_merge.specs.declared.Next.{Next}
 use Rattle.edit_merge.specs.declared.MergeCursor.{MergeCursor}
-use Rattle.edit_merge.specs.Merge.{from, together, Head}
+use Rattle.edit_merge.specs.Merge.{from, together, comes_first, Head}
 use Rattle.clone_items.specs.declared.Copying.{Copying}
 use Rattle.clone_items.specs.Copies.{clone_item, copied, clones}
 use Rattle.clone_items.specs.Raw.{InFiles}
@@ -57,6 +58,12 @@ module _ (c : Copying) (source : List ℕ) where
     -- the new items that are left from item j of the segment and source record k on
     abbrev pub news : (j k : ℕ) → List Piece
     news j k = together (clones c (from source k)) (from segment j)
+
+    -- the copy of record k, where it comes first of them
+    pub record LeadingCopy (j k : ℕ) (copy : Option Item) : Type 0 where
+      pub some : (item : Item) → copy ≡ Some item → (k < length source / 70) × (fields item ≡ clone_item c (decode (drop (k * 70) source)))
+          × (comes_first (clones c (from source k)) (from segment j) ≡ true)
+      pub none : copy ≡ None → comes_first (clones c (from source k)) (from segment j) ≡ false
 
     -- the first of them and what is left behind it, or that none is left
     pub record IsNext (j₀ k₀ : ℕ) (next : Next) : Type 0 where

@@ -2,7 +2,7 @@
 // the copies and what the cut leaves. The copies are not stored: they are made from the source list as they are wanted.
 #![tactic(auto)]
 
-ghost use Rattle.std.specs.Prelude.{◌≡◌, true, map, ◌+◌, ◌/◌, ◌≤◌, ◌<◌, ◌^◌, length};
+ghost use Rattle.std.specs.Prelude.{◌≡◌, true, map, position, ◌+◌, ◌/◌, ◌≤◌, ◌<◌, ◌^◌, length};
 ghost use Rattle.records.specs.Lent.{old, new};
 ghost use Rattle.records.specs.Stages.{pairs};
 ghost use Rattle.item.specs.Items.{fields, items};
@@ -12,10 +12,10 @@ ghost use Rattle.cut_def.specs.Refs.{ref_of};
 ghost use Rattle.cut_def.specs.Edits.{edits};
 ghost use Rattle.plan_def.specs.Outputs.{edit_bytes, ref_numbers};
 ghost use Rattle.plan_lines.specs.Lines.{Laid};
-ghost use Rattle.edit_merge.specs.Merge.{from, together, comes_first};
-ghost use Rattle.clone_items.specs.Copies.{clones};
+ghost use Rattle.edit_merge.specs.Merge.{from, together};
+ghost use Rattle.clone_items.specs.Copies.{copied, clones};
 ghost use Rattle.clone_items.specs.Raw.{InFiles};
-ghost use Rattle.clone_copies.specs.Walk.{leads, copy_share, copy_bytes, copy_sound, Copyables, Settled, Sought, IsNext, Ready, Stepped};
+ghost use Rattle.clone_copies.specs.Walk.{leads, copy_share, copy_bytes, copy_sound, Copyables, Settled, Sought, LeadingCopy, IsNext, Ready, Stepped};
 
 use clone_items::Copying;
 use edit_merge::{MergeCursor, Next};
@@ -41,8 +41,8 @@ pub fn put_copy_refs(c: Copying, source: &[u8], out: &mut [u64], n: usize) -> us
     ensures { Laid ref_numbers 2 n (map ref_of (clones c (items source.now))) out.old result out.new }
 {
     let mut m = n;
-    for i in 0..source.len() / item::RECORD {
-        m = put_copy_ref(c, item::item_at(source, i), out, m);
+    for item in item::items(source) {
+        m = put_copy_ref(c, item, out, m);
     }
     m
 }
@@ -66,50 +66,54 @@ pub fn copied_bytes(c: Copying, source: &[u8]) -> u64
     requires { Copyables c (items source.now) × (counted_bytes (clones c (items source.now)) < 2 ^ 64) }
     ensures { result ≡ counted_bytes (clones c (items source.now)) }
 {
-    let mut sum: u64 = 0;
-    for i in 0..source.len() / item::RECORD {
-        sum += copy_bytes(c, item::item_at(source, i));
+    let mut sum = 0;
+    for item in item::items(source) {
+        sum += copy_bytes(c, item);
     }
     sum
 }
 
 // ---- edits
 
+// How far behind record k the first is that is copied.
+fn distance(c: Copying, source: &[u8], k: usize) -> Option<usize>
+    ensures { result ≡ position (copied c) (from source.now k) }
+{
+    item::reader_at(source, k).position(|item| clone_items::is_copied(c, item))
+}
+
 // The first record, from k on, that is copied; the number of records where there is none.
 fn next_copied(c: Copying, source: &[u8], k: usize) -> usize
     requires { k ≤ length source.now / 70 }
     ensures { Sought c source.now k result }
 {
-    let n = source.len() / item::RECORD;
-    for i in k..n {
-        if clone_items::is_copied(c, item::item_at(source, i)) {
-            return i;
-        }
+    match distance(c, source, k) {
+        Some(d) => k + d,
+        None => source.len() / item::RECORD,
     }
-    n
 }
 
 // Whether a key comes before all items left in the segment.
 fn is_leading(segment: &[u8], j: usize, key: u64) -> bool
     ensures { result ≡ leads key (from segment.now j) }
 {
-    if j >= segment.len() / item::RECORD {
-        return true;
-    }
-    let g = item::item_at(segment, j);
-    key < g.key
+    item::reader_at(segment, j)
+        .next()
+        .is_none_or(|g| key < g.key)
 }
 
-// Whether the next copy, of record k, comes before all items left in the segment.
-fn is_copy_first(c: Copying, source: &[u8], segment: &[u8], j: usize, k: usize) -> bool
+// The next copy, of record k, where it comes before all items left in the segment.
+fn leading_copy(c: Copying, source: &[u8], segment: &[u8], j: usize, k: usize) -> Option<Item>
     requires { Copyables c (items source.now) × Settled c source.now k }
-    ensures { result ≡ comes_first (clones c (from source.now k)) (from segment.now j) }
+    ensures { LeadingCopy c source.now segment.now j k result }
 {
-    if k >= source.len() / item::RECORD {
-        return false;
+    let item = item::reader_at(source, k).next()?;
+    let copy = clone_items::clone_item(c, item);
+    if is_leading(segment, j, copy.key) {
+        Some(copy)
+    } else {
+        None
     }
-    let copy = clone_items::clone_item(c, item::item_at(source, k));
-    is_leading(segment, j, copy.key)
 }
 
 // The next new item: the next copy or the segment's next item, whichever has the lower key.
@@ -117,8 +121,7 @@ fn next_new(c: Copying, source: &[u8], segment: &[u8], j: usize, k: usize) -> Ne
     requires { Copyables c (items source.now) × (pairs rises (clones c (items source.now)) ≡ true) × (j ≤ length segment.now / 70) × Settled c source.now k }
     ensures { IsNext c source.now segment.now j k result }
 {
-    if is_copy_first(c, source, segment, j, k) {
-        let item = clone_items::clone_item(c, item::item_at(source, k));
+    if let Some(item) = leading_copy(c, source, segment, j, k) {
         let next = next_copied(c, source, k + 1);
         return Next {
             some: true,

@@ -1,22 +1,20 @@
-use Prim.Native.Nat.{◌/◌}
-use lib.ListN.{length}
-use Rattle.item.specs.Items.{fields}
-use Rattle.item.proofs.Laws.{item-decode, rest-items}
-use Rattle.clone_copies.proofs.Walk.{sound_read, bytes-turn, bytes-done}
-use native.Mathlib.Omega.{arith}
+use Rattle.std.proofs.Common.{ap, ◌∙◌, arith}
+use Rattle.cut_def.specs.Pieces.{counted_bytes}
+use Rattle.clone_items.specs.Copies.{clones}
+use Rattle.clone_copies.proofs.Walk.{bytes_cons, bytes_none, sound_first}
 use Rattle.clone_copies.proofs.copied_bytes.Goals as goal
 
-pub loop-i-init : goal.loop-i-init
-loop-i-init c = (omega arith, rw rest-items (omega arith))
-
 pub copy_bytes-sum-requires : goal.copy_bytes-sum-requires
-copy_bytes-sum-requires c = let a = c.args in let p = c.requires in (p.0.inside, sound_read a.c a.source.now _ _ p.0 c.loop-i-test.true c.item_at.ensures)
+copy_bytes-sum-requires c = (c.requires.0.inside, (sound_first c.args.c _ _ _ c.in-Some.ensures.steps c.loop-item.invariant.sound).0)
 
 pub overflow_add-sum : goal.overflow_add-sum
-overflow_add-sum c = let a = c.args in let s = a.source.now in omega (arith, bytes-turn a.c s (length s / 70) c.loop-i.i (fields c.item_at.result) _ (omega arith) (item-decode _ _ c.item_at.ensures) c.copy_bytes-sum.ensures)
+overflow_add-sum c = omega (arith, c.loop-item.invariant.sum, ap (λ l. counted_bytes (clones c.args.c l)) c.in-Some.ensures.steps ∙ bytes_cons c.args.c _ _, c.requires.1)
 
-pub loop-i-preserved : goal.loop-i-preserved
-loop-i-preserved c = let a = c.args in let s = a.source.now in (omega arith, omega (arith, bytes-turn a.c s (length s / 70) c.loop-i.i (fields c.item_at.result) _ (omega arith) (item-decode _ _ c.item_at.ensures) c.copy_bytes-sum.ensures))
+pub loop-item-preserved : goal.loop-item-preserved
+loop-item-preserved c = record {
+  sound = (sound_first c.args.c _ _ _ c.in-Some.ensures.steps c.loop-item.invariant.sound).1;
+  sum = omega (arith, c.loop-item.invariant.sum, ap (λ l. counted_bytes (clones c.args.c l)) c.in-Some.ensures.steps ∙ bytes_cons c.args.c _ _);
+}
 
 pub returns : goal.returns
-returns c = let a = c.args in let s = a.source.now in omega (arith, bytes-done a.c s (length s / 70) c.loop-i.i c.loop-i-test.false)
+returns c = omega (arith, c.loop-item.invariant.sum, bytes_none c.args.c _ c.in-None.ensures.steps.0)

@@ -1,18 +1,12 @@
-use mathlib.Core.Path.{refl, ◌∙◌, sym}
-use Rattle.item.specs.Items.{fields}
-use Rattle.item.proofs.Laws.{item-decode}
-use Rattle.clone_copies.proofs.Walk.{walk_passed, sought_at, sought_none}
-use native.Mathlib.Omega.{arith}
+use Rattle.std.proofs.Common.{refl, sym, ◌∙◌, arith}
+use Rattle.clone_copies.proofs.Walk.{sought_at, sought_none}
 use Rattle.clone_copies.proofs.next_copied.Goals as goal
 
-pub loop-i-init : goal.loop-i-init
-loop-i-init c = (omega arith, omega arith, refl)
+pub overflow_add-result : goal.overflow_add-result
+overflow_add-result c = let a = c.args in let s = sought_at a.c a.source.now a.k _ (sym c.distance.ensures ∙ c.in-Some.is) in omega (arith, s.settled.most)
 
-pub returns-then-is_copied : goal.returns-then-is_copied
-returns-then-is_copied c = let a = c.args in let l = c.loop-i in sought_at a.c a.source.now a.k l.i (fields c.item_at.result) l.invariant.0 (omega arith) (item-decode _ _ c.item_at.ensures) (sym c.is_copied.ensures ∙ c.if-is_copied.true) l.invariant.2
+pub returns-in-Some : goal.returns-in-Some
+returns-in-Some c = let a = c.args in sought_at a.c a.source.now a.k _ (sym c.distance.ensures ∙ c.in-Some.is)
 
-pub loop-i-preserved : goal.loop-i-preserved
-loop-i-preserved c = let a = c.args in let l = c.loop-i in (omega arith, omega arith, walk_passed a.c a.source.now l.i (fields c.item_at.result) (omega arith) (item-decode _ _ c.item_at.ensures) (sym c.is_copied.ensures ∙ c.if-is_copied.false) ∙ l.invariant.2)
-
-pub returns : goal.returns
-returns c = let a = c.args in let l = c.loop-i in sought_none a.c a.source.now a.k l.i _ refl l.invariant.0 l.invariant.1 c.loop-i-test.false l.invariant.2
+pub returns-in-None : goal.returns-in-None
+returns-in-None c = let a = c.args in sought_none a.c a.source.now a.k _ refl c.requires (sym c.distance.ensures ∙ c.in-None.is)
