@@ -1,85 +1,67 @@
-// The claims of demand 3 on the bytes, and a few more: each function answers 0, or the number of the claim that does not hold.
-use crate::runs;
-use item::Item;
-use records::{both, either, first, larger, pick, unless};
+// The claims of demand 3 on the bytes, and a few more: each function passes, or gives the claim that does not hold.
+use crate::outputs::Outputs;
+use records::refusal::Refusal;
 use request::Numbers;
-use test_history_state::calls::Call;
-use test_history_state::numbers::{
-    blank, blank_bytes, byte, minus, plus, rest, same, same_bytes, sectors_in, sectors_up,
-};
-use test_history_state::{calls, ledgers, maps, state};
+use test_history_state::calls::{Call, Operation};
+use test_history_state::ledgers::Ledger;
+use test_history_state::maps::{Map, map_of, shown_at};
+use test_history_state::sectors::{sectors_in, sectors_up};
+use test_history_state::state::{self, RECORDS, ROWS, State};
 
-pub const LIST_KEPT: u8 = 1;
+#[derive(Clone, Copy)]
+pub enum Claim {
+    ListKept = 1,
+    TableKept,
+    OthersKept,
+    Mapping,
+    Balance,
+    Totals,
+    Released,
+    PastPlan,
+    Size,
+    Bytes,
+    Unchanged,
+    Applying,
+    Nothing,
+}
 
-pub const TABLE_KEPT: u8 = 2;
-
-pub const OTHERS_KEPT: u8 = 3;
-
-pub const MAPPING: u8 = 4;
-
-pub const BALANCE: u8 = 5;
-
-pub const TOTALS: u8 = 6;
-
-pub const RELEASED: u8 = 7;
-
-pub const PAST_PLAN: u8 = 8;
-
-pub const SIZE: u8 = 9;
-
-pub const BYTES: u8 = 10;
-
-pub const UNCHANGED: u8 = 11;
-
-pub const APPLYING: u8 = 12;
-
-pub const NOTHING: u8 = 13;
+pub fn check(holds: bool, claim: Claim) -> Result<(), Claim> {
+    if holds { Ok(()) } else { Err(claim) }
+}
 
 // ---- 1 and 2: the changed list and the table are well kept
 
-fn sectors_kept(list: &[u8], sector: u64) -> u8 {
-    if 0 < sector {
-        records::refusal::number_of(lists::sectors_refusal(list, sector))
-    } else {
-        4
+fn list_kept(f: usize, s: &State) -> Result<(), Refusal> {
+    let list = s.list(f);
+    lists::list_size_refusal(list)?;
+    lists::list_refusal(list, state::file_number(f))?;
+    match s.sector() {
+        0 => Err(Refusal::Sector),
+        sector => lists::sectors_refusal(list, sector),
     }
 }
 
-pub fn kept(f: usize, s: &[u64], list: &[u8], rows: &[u64]) -> u8 {
-    let sizes = first(
-        records::refusal::number_of(lists::list_size_refusal(list)),
-        records::refusal::number_of(table::table_size_refusal(rows)),
-    );
-    let number = state::file_number(f);
-    let records = first(
-        records::refusal::number_of(lists::list_refusal(list, number)),
-        sectors_kept(list, state::sector(s)),
-    );
-    let well = unless(first(sizes, records) == 0, LIST_KEPT);
-    first(well, unless(table::table_refusal(rows).is_ok(), TABLE_KEPT))
+pub fn kept(f: usize, s: &State) -> Result<(), Claim> {
+    check(list_kept(f, s).is_ok(), Claim::ListKept)?;
+    check(
+        table::table_size_refusal(s.rows()).is_ok(),
+        Claim::ListKept,
+    )?;
+    check(table::table_refusal(s.rows()).is_ok(), Claim::TableKept)
 }
 
 // ---- 3: the bytes of the other files
 
-fn changed_byte(f: usize, lists: &[u8], was: &[u8], i: usize) -> bool {
-    both(i / 2240 != f, byte(lists, i) != byte(was, i))
-}
-
-pub fn others_kept(f: usize, lists: &[u8], was: &[u8]) -> u8 {
-    let n = lists.len();
-    let mut i: usize = 0;
-    while i < n {
-        if changed_byte(f, lists, was, i) {
-            return OTHERS_KEPT;
-        }
-        i += 1;
+pub fn others_kept(f: usize, s: &State, was: &State) -> Result<(), Claim> {
+    for (i, (list, before)) in s.lists.iter().zip(&was.lists).enumerate() {
+        check(i == f || list == before, Claim::OthersKept)?;
     }
-    0
+    Ok(())
 }
 
 // ---- 4: the mapping at every sector
 
-// The sectors that a call may change, from `lo` up to `hi`, and the old end's (64 for none); `whole` up to `past` are those
+// The sectors that a call may change, from `lo` up to `hi`, and the old end's, if there is one; `whole` up to `past` are those
 // that the range covers whole. A clone's come from `source` on.
 #[derive(Clone, Copy)]
 struct Sectors {
@@ -87,240 +69,216 @@ struct Sectors {
     hi: u64,
     whole: u64,
     past: u64,
-    end: u64,
+    end: Option<u64>,
     source: u64,
 }
 
 // The sector of an old end that a fallocate rewrites: one inside a sector, before the range's end.
-fn old_end(call: Call, size: u64, sector: u64, shift: u64) -> u64 {
-    let allocates = both(
-        call.operation != calls::PUNCH,
-        call.operation != calls::CLONE,
-    );
-    let inside = rest(size, sector) != 0;
-    let passed = size < plus(call.to, call.length);
-    pick(
-        both(allocates, both(inside, passed)),
-        sectors_in(size, shift),
-        64,
-    )
-}
-
-// The length that is meant: a clone's 0 is all up to the source's end. `old` has the volume's numbers before the call.
-fn meant(call: Call, old: &[u64]) -> u64 {
-    let size = state::size(old, call.source);
-    let rest_of_it = both(call.operation == calls::CLONE, call.length == 0);
-    pick(rest_of_it, minus(size, call.from), call.length)
-}
-
-fn sectors_of(call: Call, old: &[u64]) -> Sectors {
-    let shift = state::shift(old);
-    let end = plus(call.to, meant(call, old));
-    Sectors {
-        lo: sectors_in(call.to, shift),
-        hi: sectors_up(end, shift),
-        whole: sectors_up(call.to, shift),
-        past: sectors_in(end, shift),
-        end: old_end(call, state::size(old, call.file), state::sector(old), shift),
-        source: sectors_in(call.from, shift),
-    }
-}
-
-// A punched sector shows nothing if the range covers it whole; else it shows something if it did.
-fn punched(p: Sectors, k: u64, before: &[u64], after: &[u64]) -> bool {
-    let whole = both(p.whole <= k, k < p.past);
-    let none = maps::start_at(after, k) == 0;
-    let was_none = maps::start_at(before, k) == 0;
-    either(both(whole, none), both(!whole, none == was_none))
-}
-
-// An allocated sector shows something, and what it showed before unless it is the old end's.
-fn allocated(p: Sectors, k: u64, before: &[u64], after: &[u64]) -> bool {
-    let there = maps::start_at(after, k) != 0;
-    let fresh = either(maps::start_at(before, k) == 0, k == p.end);
-    both(there, either(fresh, maps::same_at(before, k, after, k)))
-}
-
-// What a sector that the call may change shows.
-fn inside_right(
-    operation: u64,
-    p: Sectors,
-    k: u64,
-    before: &[u64],
-    source: &[u64],
-    after: &[u64],
-) -> bool {
-    if operation == calls::PUNCH {
-        return punched(p, k, before, after);
-    }
-    if operation == calls::CLONE {
-        return maps::same_at(source, plus(p.source, minus(k, p.lo)), after, k);
-    }
-    allocated(p, k, before, after)
-}
-
-fn right_at(
-    operation: u64,
-    p: Sectors,
-    k: u64,
-    before: &[u64],
-    source: &[u64],
-    after: &[u64],
-) -> bool {
-    if either(both(p.lo <= k, k < p.hi), k == p.end) {
-        inside_right(operation, p, k, before, source, after)
-    } else {
-        maps::same_at(before, k, after, k)
-    }
-}
-
-fn maps_right(operation: u64, p: Sectors, before: &[u64], source: &[u64], after: &[u64]) -> u8 {
-    let mut i: u64 = 0;
-    while i < 64 {
-        if !right_at(operation, p, i, before, source, after) {
-            return MAPPING;
+fn old_end(call: Call, s: &State) -> Option<u64> {
+    let size = s.size(call.file);
+    let inside = size.checked_rem(s.sector())? != 0;
+    let passed = size < call.to.wrapping_add(call.length);
+    match call.operation {
+        Operation::Fallocate | Operation::FallocateKeep if inside && passed => {
+            Some(sectors_in(size, s.shift))
         }
-        i += 1;
+        _ => None,
     }
-    0
 }
 
-// `was` is the file's list before the plan and `from` the source's.
-pub fn mapping(call: Call, old: &[u64], was: &[u8], from: &[u8], list: &[u8]) -> u8 {
-    let shift = state::shift(old);
-    let mut before = [0u64; 192];
-    let mut source = [0u64; 192];
-    let mut after = [0u64; 192];
-    maps::fill(&mut before, was, shift);
-    maps::fill(&mut source, from, shift);
-    maps::fill(&mut after, list, shift);
-    maps_right(
-        call.operation,
-        sectors_of(call, old),
-        &before,
-        &source,
-        &after,
-    )
+// The length that is meant: a clone's 0 is all up to the source's end. `was` is the volume before the call.
+fn meant(call: Call, was: &State) -> u64 {
+    if call.operation == Operation::Clone && call.length == 0 {
+        was.size(call.source).wrapping_sub(call.from)
+    } else {
+        call.length
+    }
+}
+
+fn sectors_of(call: Call, was: &State) -> Sectors {
+    let end = call.to.wrapping_add(meant(call, was));
+    Sectors {
+        lo: sectors_in(call.to, was.shift),
+        hi: sectors_up(end, was.shift),
+        whole: sectors_up(call.to, was.shift),
+        past: sectors_in(end, was.shift),
+        end: old_end(call, was),
+        source: sectors_in(call.from, was.shift),
+    }
+}
+
+// The maps of the file before and after the plan, and the source's before.
+#[derive(Drop)]
+struct Maps {
+    before: Map,
+    source: Map,
+    after: Map,
+}
+
+impl Maps {
+    // A punched sector shows nothing if the range covers it whole; else it shows something if it did.
+    fn is_punched(&self, p: Sectors, k: u64) -> bool {
+        let after = shown_at(&self.after, k);
+        if p.whole <= k && k < p.past {
+            after.is_none()
+        } else {
+            after.is_none() == shown_at(&self.before, k).is_none()
+        }
+    }
+
+    // An allocated sector shows something, and what it showed before unless it is the old end's.
+    fn is_allocated(&self, p: Sectors, k: u64) -> bool {
+        let after = shown_at(&self.after, k);
+        let before = shown_at(&self.before, k);
+        after.is_some() && (before.is_none() || p.end == Some(k) || before == after)
+    }
+
+    // What a sector shows after a call.
+    fn is_right(&self, operation: Operation, p: Sectors, k: u64) -> bool {
+        if !(p.lo <= k && k < p.hi) && p.end != Some(k) {
+            return shown_at(&self.before, k) == shown_at(&self.after, k);
+        }
+        match operation {
+            Operation::Punch => self.is_punched(p, k),
+            Operation::Clone => {
+                let from = p.source.wrapping_add(k.wrapping_sub(p.lo));
+                shown_at(&self.source, from) == shown_at(&self.after, k)
+            }
+            _ => self.is_allocated(p, k),
+        }
+    }
+}
+
+pub fn mapping(call: Call, s: &State, was: &State) -> Result<(), Claim> {
+    let maps = Maps {
+        before: map_of(was.list(call.file), was.shift),
+        source: map_of(was.list(call.source), was.shift),
+        after: map_of(s.list(call.file), was.shift),
+    };
+    let p = sectors_of(call, was);
+    for k in 0..64 {
+        check(maps.is_right(call.operation, p, k), Claim::Mapping)?;
+    }
+    Ok(())
 }
 
 // ---- 5: for each reference, items after + unrefs + releases = items before + shares + adds
 
-fn note_lines(ledger: &mut [u64], n: Numbers, shares: &[u64], unrefs: &[u64], releases: &[u64]) {
-    ledgers::note_pairs(ledger, runs::pairs(shares, n.shares), ledgers::ONE);
-    ledgers::note_pairs(ledger, runs::pairs(unrefs, n.unrefs), ledgers::MINUS_ONE);
-    ledgers::note_pairs(
-        ledger,
-        runs::pairs(releases, n.releases),
-        ledgers::MINUS_ONE,
-    );
-}
-
 pub fn balance(
+    f: usize,
     n: Numbers,
-    was: &[u8],
-    list: &[u8],
-    shares: &[u64],
-    unrefs: &[u64],
-    releases: &[u64],
-    adds: &[u64],
-) -> u8 {
-    let mut ledger = [0u64; 601];
-    ledgers::note_items(&mut ledger, was, ledgers::ONE);
-    ledgers::note_items(&mut ledger, list, ledgers::MINUS_ONE);
-    ledgers::note_adds(&mut ledger, runs::triples(adds, n.adds));
-    note_lines(&mut ledger, n, shares, unrefs, releases);
-    unless(ledgers::balanced(&ledger), BALANCE)
+    s: &State,
+    was: &State,
+    out: &Outputs,
+) -> Result<(), Claim> {
+    let mut ledger = Ledger::new();
+    ledger.note_items(was.list(f), true);
+    ledger.note_items(s.list(f), false);
+    ledger.note_adds(out.adds(n));
+    ledger.note_pairs(out.shares(n), true);
+    ledger.note_pairs(out.unrefs(n), false);
+    ledger.note_pairs(out.releases(n), false);
+    check(ledger.is_balanced(), Claim::Balance)
 }
 
-// ---- 6 and 7 stand in totals.rt; 8: outputs past the plan keep their bytes
+// ---- 6 and 7: the table's references are true, and an extent is released exactly when its last reference goes
 
-pub fn past_plan(
-    n: Numbers,
-    edits: &[u8],
-    shares: &[u64],
-    unrefs: &[u64],
-    releases: &[u64],
-    adds: &[u64],
-    writes: &[u64],
-) -> u8 {
-    let e = blank_bytes(edits, runs::edits_in(edits, n.edits).len());
-    let a = blank(shares, runs::pairs(shares, n.shares).len());
-    let b = blank(unrefs, runs::pairs(unrefs, n.unrefs).len());
-    let c = blank(releases, runs::pairs(releases, n.releases).len());
-    let d = blank(adds, runs::triples(adds, n.adds).len());
-    let w = blank(writes, runs::fours(writes, n.writes).len());
-    unless(both(both(e, a), both(both(b, c), both(d, w))), PAST_PLAN)
+// The extent that each record of each file names, if it names one.
+fn names(s: &State) -> [Option<u64>; 128] {
+    let mut names = [None; 128];
+    for f in 0..state::FILES {
+        let part = &mut names[f * RECORDS..f * RECORDS + RECORDS];
+        for (name, item) in part.iter_mut().zip(item::items(s.list(f))) {
+            *name = state::named(item);
+        }
+    }
+    names
+}
+
+fn often(names: &[Option<u64>], start: u64) -> u64 {
+    names.iter().filter(|name| **name == Some(start)).count() as u64
+}
+
+// Each row's references are the items that name its extent, and some do; and all rows' are all there are: so every extent that is
+// named has a row.
+fn rows_true(names: &[Option<u64>], rows: &[u64]) -> Result<(), Claim> {
+    let mut sum: u64 = 0;
+    for row in table::rows(rows) {
+        let right = row.references != 0 && often(names, row.start) == row.references;
+        check(right, Claim::Totals)?;
+        sum = sum.wrapping_add(row.references);
+    }
+    let named = names.iter().flatten().count() as u64;
+    check(sum == named, Claim::Totals)
+}
+
+// Whether a line of two numbers has this start.
+fn has_line(lines: &[u64], start: u64) -> bool {
+    lines.chunks_exact(2).any(|line| line[0] == start)
+}
+
+// Of the rows before the plan, those that nothing names any more are those that a release names.
+fn released_right(names: &[Option<u64>], rows: &[u64], releases: &[u64]) -> Result<(), Claim> {
+    for row in table::rows(rows) {
+        let gone = often(names, row.start) == 0;
+        check(gone == has_line(releases, row.start), Claim::Released)?;
+    }
+    Ok(())
+}
+
+pub fn totals(s: &State, was: &State, releases: &[u64]) -> Result<(), Claim> {
+    let names = names(s);
+    rows_true(&names, s.rows())?;
+    released_right(&names, was.rows(), releases)
 }
 
 // ---- 9 and 10: the new size, and the byte count
 
-fn size_right(call: Call, old: &[u64], size: u64) -> u8 {
-    let was = state::size(old, call.file);
-    let end = plus(call.to, meant(call, old));
-    let keeps = either(
-        call.operation == calls::PUNCH,
-        call.operation == calls::FALLOCATE_KEEP,
-    );
-    unless(size == pick(keeps, was, larger(was, end)), SIZE)
-}
-
-fn item_bytes(item: Item) -> u64 {
-    pick(state::named(item) == 0, 0, item.length())
+fn size_meant(call: Call, was: &State) -> u64 {
+    let size = was.size(call.file);
+    match call.operation {
+        Operation::Punch | Operation::FallocateKeep => size,
+        _ => size.max(call.to.wrapping_add(meant(call, was))),
+    }
 }
 
 fn bytes_held(list: &[u8]) -> u64 {
-    let n = list.len() / 70;
     let mut sum: u64 = 0;
-    let mut i: usize = 0;
-    while i < n {
-        sum = plus(sum, item_bytes(state::item_of(list, i)));
-        i += 1;
+    for item in item::items(list) {
+        if state::named(item).is_some() {
+            sum = sum.wrapping_add(item.length());
+        }
     }
     sum
 }
 
-pub fn numbers(call: Call, n: Numbers, old: &[u64], list: &[u8]) -> u8 {
-    first(
-        size_right(call, old, n.size),
-        unless(bytes_held(list) == n.bytes, BYTES),
-    )
+pub fn numbers(call: Call, n: Numbers, s: &State, was: &State) -> Result<(), Claim> {
+    check(n.size == size_meant(call, was), Claim::Size)?;
+    check(bytes_held(s.list(call.file)) == n.bytes, Claim::Bytes)
 }
 
 // ---- 11 and 12: a refusal changes nothing, and applying refuses a fresh plan only for want of room
 
-pub fn unchanged(lists: &[u8], was: &[u8], table: &[u64], rows_were: &[u64]) -> u8 {
-    unless(
-        both(same_bytes(lists, was), same(table, rows_were)),
-        UNCHANGED,
-    )
+pub fn unchanged(s: &State, was: &State) -> Result<(), Claim> {
+    check(s == was, Claim::Unchanged)
 }
 
-pub fn want_of_room(f: usize, n: Numbers, old: &[u64], why: u8) -> u8 {
-    let records = plus(state::items(old, f) as u64, n.edits as u64);
-    let rows = plus(state::rows(old) as u64, n.adds as u64);
-    let short = either(32 < records, 48 < rows);
-    unless(both(why == 27, short), APPLYING)
+pub fn want_of_room(f: usize, n: Numbers, was: &State, why: u8) -> Result<(), Claim> {
+    let records = was.item_count(f).saturating_add(n.edits);
+    let rows = was.rows.saturating_add(n.adds);
+    let short = RECORDS < records || ROWS < rows;
+    check(why == 27 && short, Claim::Applying)
 }
 
 // ---- 13: there is nothing to do only where a punch's range shows nothing, and where nothing is left to clone
 
-// Whether any sector from `lo` up to `hi` shows something.
-fn shows(map: &[u64], lo: u64, hi: u64) -> bool {
-    let mut i: u64 = 0;
-    while i < 64 {
-        if both(both(lo <= i, i < hi), maps::start_at(map, i) != 0) {
-            return true;
-        }
-        i += 1;
-    }
-    false
-}
-
-pub fn nothing(call: Call, old: &[u64], list: &[u8]) -> u8 {
-    let mut map = [0u64; 192];
-    maps::fill(&mut map, list, state::shift(old));
-    let p = sectors_of(call, old);
-    let clear = both(call.operation == calls::PUNCH, !shows(&map, p.lo, p.hi));
-    let none = both(call.operation == calls::CLONE, meant(call, old) == 0);
-    unless(either(clear, none), NOTHING)
+pub fn nothing(call: Call, was: &State) -> Result<(), Claim> {
+    let map = map_of(was.list(call.file), was.shift);
+    let p = sectors_of(call, was);
+    let right = match call.operation {
+        Operation::Punch => (p.lo..p.hi.min(64)).all(|k| shown_at(&map, k).is_none()),
+        Operation::Clone => meant(call, was) == 0,
+        _ => false,
+    };
+    check(right, Claim::Nothing)
 }

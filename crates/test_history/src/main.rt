@@ -3,114 +3,112 @@
 // claim that does not hold. The seed is fixed, so its output is too.
 #![tactic(auto)]
 
-mod answers;
 mod claims;
+mod outputs;
 mod runs;
-mod totals;
 mod turns;
 
-use test_history_state::numbers::{get, put, summed, summed_bytes};
-use test_history_state::{between, state};
+use claims::Claim;
+use std::io;
+use test_history_state::between;
+use test_history_state::draws::{stirred, summed};
+use test_history_state::state::{Counts, FILES, LIST, State, TABLE};
 
-fn text(rt: &impl Print, s: &[u8]) {
-    let _ = rt.write_all(s);
+// Numbers on a line, behind a word, a space before each.
+fn numbers_line(rt: &impl Print, word: &str, numbers: &[u64]) -> io::Result<()> {
+    print!(rt; "{word}")?;
+    for x in numbers {
+        print!(rt; " {x}")?;
+    }
+    println!(rt;)
 }
 
-// Numbers on a line, a space before each.
-fn numbers_line(rt: &impl Print, word: &[u8], a: &[u64]) {
-    text(rt, word);
-    let n = a.len();
-    let mut i: usize = 0;
-    while i < n {
-        let x = get(a, i);
-        let _ = print!(rt; " {x}");
-        i += 1;
+// A sum over all bytes.
+fn sum_of(s: &State) -> u64 {
+    let mut sum = summed(&s.table, 1);
+    for list in &s.lists {
+        sum = summed(list, sum);
     }
-    text(rt, b"\n");
+    sum
 }
 
 // The number of a round, its sector, what it counted, each file's records, the rows, and a sum over all bytes.
-fn print_round(rt: &impl Print, s: &[u64], lists: &[u8], table: &[u64], round: u64) {
+fn print_round(rt: &impl Print, s: &State, counts: &Counts, round: u64) -> io::Result<()> {
     let line = [
         round,
-        state::sector(s),
-        get(s, state::APPLIED),
-        get(s, state::NO_ROOM),
-        get(s, state::NOTHINGS),
-        get(s, state::REFUSALS),
-        get(s, state::TAKEN_BACK),
-        state::items(s, 0) as u64,
-        state::items(s, 1) as u64,
-        state::items(s, 2) as u64,
-        state::items(s, 3) as u64,
-        get(s, state::ROWS),
-        summed_bytes(lists, summed(table, 1)),
+        s.sector(),
+        counts.applied,
+        counts.no_room,
+        counts.nothings,
+        counts.refusals,
+        counts.taken_back,
+        s.items[0] as u64,
+        s.items[1] as u64,
+        s.items[2] as u64,
+        s.items[3] as u64,
+        s.rows as u64,
+        sum_of(s),
     ];
-    numbers_line(rt, b"", &line);
+    numbers_line(rt, "", &line)
 }
 
-fn print_broken(rt: &impl Print, why: u8, round: u64, call: u64) {
+fn print_broken(rt: &impl Print, claim: Claim, round: u64, call: u64) -> io::Result<()> {
     numbers_line(
         rt,
-        b"does not hold: claim, round, call",
-        &[why as u64, round, call],
-    );
+        "does not hold: claim, round, call",
+        &[claim as u64, round, call],
+    )
 }
 
-fn print_end(rt: &impl Print, s: &[u64]) {
+fn print_end(rt: &impl Print, counts: &Counts) -> io::Result<()> {
     numbers_line(
         rt,
-        b"edits shares unrefs releases adds writes",
-        state::lines(s),
-    );
-    numbers_line(rt, b"refusals 1 to 27", state::by_number(s));
-    text(rt, b"every claim held\n");
+        "edits shares unrefs releases adds writes",
+        &counts.lines,
+    )?;
+    numbers_line(rt, "refusals 1 to 27", &counts.by_number)?;
+    println!(rt; "every claim held")
 }
 
 // ---- the history
 
-// A round of 2,000 calls; the number of a claim that does not hold, or 0.
-fn run_round(
-    rt: &impl Print,
-    s: &mut [u64],
-    lists: &mut [u8],
-    table: &mut [u64],
-    round: u64,
-) -> u8 {
-    between::begin(lists, s, round);
-    let mut i: u64 = 0;
-    while i < 2000 {
-        let why = turns::turn(s, lists, table);
-        if why != 0 {
-            print_broken(rt, why, round, i);
-            return why;
-        }
-        i += 1;
-    }
-    0
+// A claim that does not hold, and the call after which it does not.
+#[derive(Drop)]
+struct Broken {
+    claim: Claim,
+    call: u64,
 }
 
-fn run_rounds(rt: &impl Print, s: &mut [u64], lists: &mut [u8], table: &mut [u64]) {
-    let mut i: u64 = 0;
-    while i < 20 {
-        if run_round(rt, s, lists, table, i) != 0 {
-            return;
-        }
-        print_round(rt, s, lists, table, i);
-        i += 1;
+// A round of 2,000 calls.
+fn run_round(seed: &mut u64, s: &mut State, counts: &mut Counts, round: u64) -> Result<(), Broken> {
+    between::begin(s, round);
+    counts.begin();
+    for call in 0..2000 {
+        *seed = stirred(*seed);
+        turns::turn(*seed, s, counts).map_err(|claim| Broken { claim, call })?;
     }
-    print_end(rt, s);
+    Ok(())
 }
 
-fn main(rt: HostRuntime) {
-    let mut lists = [0u8; 8960];
-    let mut table = [0u64; 240];
-    let mut s = [0u64; 64];
-    put(&mut s, state::SEED, 88172645463325252);
-    put(&mut s, state::GENERATION, 7);
-    text(
-        &rt,
-        b"round sector applied room nothing refused back items of 4 files rows sum\n",
-    );
-    run_rounds(&rt, &mut s, &mut lists, &mut table);
+fn main(rt: HostRuntime) -> io::Result<()> {
+    let mut seed: u64 = 88172645463325252;
+    let mut s = State {
+        generation: 7,
+        shift: 0,
+        taken: 0,
+        sizes: [0; FILES],
+        items: [0; FILES],
+        rows: 0,
+        lists: [[0; LIST]; FILES],
+        table: [0; TABLE],
+    };
+    let mut counts = Counts::new();
+    println!(&rt; "round sector applied room nothing refused back items of 4 files rows sum")?;
+    for round in 0..20 {
+        if let Err(broken) = run_round(&mut seed, &mut s, &mut counts, round) {
+            return print_broken(&rt, broken.claim, round, broken.call);
+        }
+        print_round(&rt, &s, &counts, round)?;
+    }
+    print_end(&rt, &counts)
 }

@@ -1,23 +1,23 @@
 // The next call, drawn at random: which operation, on which file and range, and what else it is lent. Ranges are biased to
 // sector boundaries and stay in the first 64 sectors of a file, or are refused for their end.
-use crate::numbers::{bytes_in, draw, get, lower, minus, once_in, plus, sectors_in};
-use crate::state;
+use crate::draws::{draw, once_in};
+use crate::sectors::{bytes_in, sectors_in};
+use crate::state::{self, FILES, State};
 use clone_span::CloneRange;
-use records::{both, pick};
 use request::{File, Range, Volume};
 
-pub const PUNCH: u64 = 0;
-
-pub const FALLOCATE: u64 = 1;
-
-pub const FALLOCATE_KEEP: u64 = 2;
-
-pub const CLONE: u64 = 3;
+#[derive(Clone, Copy, PartialEq, Eq)]
+pub enum Operation {
+    Punch,
+    Fallocate,
+    FallocateKeep,
+    Clone,
+}
 
 // An operation on `length` bytes of a file from `to` on; a clone's come from `from` on in the file `source`.
 #[derive(Clone, Copy)]
 pub struct Call {
-    pub operation: u64,
+    pub operation: Operation,
     pub file: usize,
     pub source: usize,
     pub from: u64,
@@ -29,116 +29,125 @@ pub struct Call {
 fn within(x: u64, name: u64, sector: u64) -> u64 {
     match draw(x, name, 8) {
         0 => 1,
-        1 => minus(sector, 1),
-        2 => draw(x, plus(name, 1), sector),
+        1 => sector.wrapping_sub(1),
+        2 => draw(x, name.wrapping_add(1), sector),
         _ => 0,
     }
 }
 
 // Some number of sectors below n, and some bytes; three draws.
-fn stretch(x: u64, name: u64, shift: u64, n: u64) -> u64 {
+fn stretch(x: u64, name: u64, shift: u32, n: u64) -> u64 {
     let whole = bytes_in(draw(x, name, n), shift);
-    plus(whole, within(x, plus(name, 1), bytes_in(1, shift)))
+    whole.wrapping_add(within(x, name.wrapping_add(1), bytes_in(1, shift)))
 }
 
 // A length: one time in three less than a sector, now and then 0.
-fn some_bytes(x: u64, shift: u64) -> u64 {
+fn some_bytes(x: u64, shift: u32) -> u64 {
     let sector = bytes_in(1, shift);
-    let many = stretch(x, 23, shift, pick(once_in(x, 26, 8), 64, 7));
-    let n = pick(once_in(x, 29, 3), draw(x, 30, sector), many);
-    let none = both(n == 0, !once_in(x, 27, 8));
-    pick(none, sector, n)
+    let n = if once_in(x, 29, 3) {
+        draw(x, 30, sector)
+    } else {
+        let most = if once_in(x, 26, 8) { 64 } else { 7 };
+        stretch(x, 23, shift, most)
+    };
+    if n == 0 && !once_in(x, 27, 8) {
+        sector
+    } else {
+        n
+    }
 }
 
 // A punch or a fallocate; now and then of a range that ends past 2^63 − 1.
-fn ranged(x: u64, shift: u64, operation: u64, file: usize) -> Call {
+fn ranged(x: u64, shift: u32, operation: Operation, file: usize) -> Call {
     let to = stretch(x, 20, shift, 64);
-    let room = minus(bytes_in(64, shift), to);
+    let room = bytes_in(64, shift).wrapping_sub(to);
     let far = once_in(x, 28, 64);
     Call {
         operation,
         file,
         source: file,
         from: 0,
-        to: pick(far, 9223372036854775807, to),
-        length: lower(some_bytes(x, shift), room),
+        to: if far { i64::MAX as u64 } else { to },
+        length: some_bytes(x, shift).min(room),
     }
 }
 
 // The length of a clone: some sectors, to the source's end (by 0 or by its number), or sectors and bytes.
-fn span_length(x: u64, shift: u64, left: u64) -> u64 {
+fn span_length(x: u64, shift: u32, left: u64) -> u64 {
     match draw(x, 30, 8) {
         0 => 0,
         1 => left,
         2 => stretch(x, 31, shift, 6),
-        _ => bytes_in(plus(draw(x, 34, 9), 1), shift),
+        _ => bytes_in(draw(x, 34, 9).wrapping_add(1), shift),
     }
 }
 
 // The same, and mostly not past the source's end.
-fn fitted_length(x: u64, shift: u64, left: u64) -> u64 {
+fn fitted_length(x: u64, shift: u32, left: u64) -> u64 {
     let n = span_length(x, shift, left);
-    pick(once_in(x, 35, 8), n, lower(n, left))
+    if once_in(x, 35, 8) { n } else { n.min(left) }
 }
 
 // A number of sectors below n in bytes, one time in 32 with a byte more.
-fn sectors(x: u64, name: u64, shift: u64, n: u64) -> u64 {
-    plus(
-        bytes_in(draw(x, name, n), shift),
-        pick(once_in(x, plus(name, 1), 32), 1, 0),
-    )
+fn sectors(x: u64, name: u64, shift: u32, n: u64) -> u64 {
+    let more = once_in(x, name.wrapping_add(1), 32) as u64;
+    bytes_in(draw(x, name, n), shift).wrapping_add(more)
 }
 
 // A clone from a source of this size; within one file one time in two to where the source ends.
-fn cloned(x: u64, shift: u64, file: usize, source: usize, size: u64) -> Call {
-    let from = sectors(x, 36, shift, plus(sectors_in(size, shift), 1));
-    let left = minus(size, from);
+fn cloned(x: u64, shift: u32, file: usize, source: usize, size: u64) -> Call {
+    let from = sectors(x, 36, shift, sectors_in(size, shift).wrapping_add(1));
+    let left = size.wrapping_sub(from);
     let length = fitted_length(x, shift, left);
-    let near = both(file == source, once_in(x, 47, 2));
-    let to = pick(near, plus(from, length), sectors(x, 38, shift, 64));
-    let end = plus(to, pick(length == 0, left, length));
+    let to = if file == source && once_in(x, 47, 2) {
+        from.wrapping_add(length)
+    } else {
+        sectors(x, 38, shift, 64)
+    };
+    let end = to.wrapping_add(if length == 0 { left } else { length });
     Call {
-        operation: CLONE,
+        operation: Operation::Clone,
         file,
         source,
         from,
-        to: pick(end <= bytes_in(64, shift), to, 0),
+        to: if end <= bytes_in(64, shift) { to } else { 0 },
         length,
     }
 }
 
 // The call of the turn with this number.
-pub fn next_call(x: u64, s: &[u64]) -> Call {
-    let file = draw(x, 10, 4) as usize;
-    let other = draw(x, 11, 4) as usize;
+pub fn next_call(x: u64, s: &State) -> Call {
+    let file = draw(x, 10, FILES as u64) as usize;
+    let other = draw(x, 11, FILES as u64) as usize;
     let source = if once_in(x, 48, 4) { file } else { other };
-    let shift = state::shift(s);
     match draw(x, 12, 8) {
-        0 | 1 | 2 => ranged(x, shift, PUNCH, file),
-        3 => ranged(x, shift, FALLOCATE, file),
-        4 => ranged(x, shift, FALLOCATE_KEEP, file),
-        _ => cloned(x, shift, file, source, state::size(s, source)),
+        0 | 1 | 2 => ranged(x, s.shift, Operation::Punch, file),
+        3 => ranged(x, s.shift, Operation::Fallocate, file),
+        4 => ranged(x, s.shift, Operation::FallocateKeep, file),
+        _ => cloned(x, s.shift, file, source, s.size(source)),
     }
 }
 
 // ---- what the call is lent beside it
 
 // Now and then the last generation, a small volume, or a recent snapshot.
-fn volume(x: u64, s: &[u64]) -> Volume {
-    let generation = get(s, state::GENERATION);
-    let recent = minus(generation, draw(x, 40, 16));
+fn volume(x: u64, s: &State) -> Volume {
     Volume {
-        sector: state::sector(s),
-        total: pick(once_in(x, 41, 32), 65536, 1073741824),
-        generation: pick(once_in(x, 42, 128), 18446744073709551615, generation),
-        snapshot: pick(once_in(x, 43, 8), recent, 0),
+        sector: s.sector(),
+        total: if once_in(x, 41, 32) { 65536 } else { 1073741824 },
+        generation: if once_in(x, 42, 128) { u64::MAX } else { s.generation },
+        snapshot: if once_in(x, 43, 8) {
+            s.generation.wrapping_sub(draw(x, 40, 16))
+        } else {
+            0
+        },
     }
 }
 
-fn file(x: u64, s: &[u64], f: usize) -> File {
+fn file(x: u64, s: &State, f: usize) -> File {
     File {
         number: state::file_number(f),
-        size: state::size(s, f),
+        size: s.size(f),
         nodatacow: once_in(x, 44, 8),
     }
 }
@@ -146,7 +155,7 @@ fn file(x: u64, s: &[u64], f: usize) -> File {
 // A call with all that it is lent but slices.
 #[derive(Clone, Copy)]
 pub struct Lent {
-    pub operation: u64,
+    pub operation: Operation,
     pub volume: Volume,
     pub dst: File,
     pub src: File,
@@ -155,7 +164,7 @@ pub struct Lent {
     pub span: CloneRange,
 }
 
-pub fn all_lent(call: Call, x: u64, s: &[u64]) -> Lent {
+pub fn all_lent(call: Call, x: u64, s: &State) -> Lent {
     Lent {
         operation: call.operation,
         volume: volume(x, s),

@@ -1,89 +1,78 @@
-// A file's references before and after a plan, with the plan's lines. The first number is how many entries there are; each
-// is three numbers: extent start, reference offset, and 1 or −1. In a balanced ledger the entries of each reference sum to 0.
-use crate::numbers::{bump, get, index, minus, plus, put};
+// A file's references before and after a plan, with the plan's lines: in a balanced ledger the entries of each reference sum to 0.
 use crate::state;
-use item::Item;
-use records::{both, pick};
 
-pub const ONE: u64 = 1;
-
-pub const MINUS_ONE: u64 = 18446744073709551615;
-
-// Where the nth entry stands.
-fn entry(n: u64) -> usize {
-    if n < 1000 { 1 + (n as usize) * 3 } else { 1 }
+// A reference, noted once more or once less.
+#[derive(Clone, Copy)]
+struct Entry {
+    start: u64,
+    offset: u64,
+    more: bool,
 }
 
-fn note(ledger: &mut [u64], start: u64, reference: u64, sign: u64) {
-    let at = entry(get(ledger, 0));
-    put(ledger, at, start);
-    put(ledger, index(at, 1), reference);
-    put(ledger, index(at, 2), sign);
-    bump(ledger, 0, 1);
+// Room for the records of two lists and the lines of a plan's outputs.
+#[derive(Clone, Copy)]
+pub struct Ledger {
+    entries: [Option<Entry>; 200],
+    next: usize,
 }
 
-fn note_item(ledger: &mut [u64], item: Item, sign: u64) {
-    let start = state::named(item);
-    if start != 0 {
-        note(ledger, start, minus(item.key, item.position()), sign);
-    }
-}
-
-pub fn note_items(ledger: &mut [u64], list: &[u8], sign: u64) {
-    let n = list.len() / 70;
-    let mut i: usize = 0;
-    while i < n {
-        note_item(ledger, state::item_of(list, i), sign);
-        i += 1;
-    }
-}
-
-// Lines of two numbers: an extent's start and a reference offset.
-pub fn note_pairs(ledger: &mut [u64], lines: &[u64], sign: u64) {
-    let n = lines.len() / 2;
-    let mut i: usize = 0;
-    while i < n {
-        note(ledger, get(lines, i * 2), get(lines, i * 2 + 1), sign);
-        i += 1;
-    }
-}
-
-// Lines of three: start, length, and the key, which is the reference offset.
-pub fn note_adds(ledger: &mut [u64], lines: &[u64]) {
-    let n = lines.len() / 3;
-    let mut i: usize = 0;
-    while i < n {
-        note(ledger, get(lines, i * 3), get(lines, i * 3 + 2), ONE);
-        i += 1;
-    }
-}
-
-// The sum of one reference's entries, modulo 2^64.
-fn weight(ledger: &[u64], start: u64, reference: u64) -> u64 {
-    let n = get(ledger, 0);
-    let mut sum: u64 = 0;
-    let mut i: u64 = 0;
-    while i < n {
-        let at = entry(i);
-        let here = both(
-            get(ledger, at) == start,
-            get(ledger, index(at, 1)) == reference,
-        );
-        sum = plus(sum, pick(here, get(ledger, index(at, 2)), 0));
-        i += 1;
-    }
-    sum
-}
-
-pub fn balanced(ledger: &[u64]) -> bool {
-    let n = get(ledger, 0);
-    let mut i: u64 = 0;
-    while i < n {
-        let at = entry(i);
-        if weight(ledger, get(ledger, at), get(ledger, index(at, 1))) != 0 {
-            return false;
+impl Ledger {
+    pub fn new() -> Ledger {
+        Ledger {
+            entries: [None; 200],
+            next: 0,
         }
-        i += 1;
     }
-    true
+
+    pub fn note(&mut self, start: u64, offset: u64, more: bool) {
+        if let Some(place) = self.entries.get_mut(self.next) {
+            *place = Some(Entry {
+                start,
+                offset,
+                more,
+            });
+            self.next += 1;
+        }
+    }
+
+    pub fn note_items(&mut self, list: &[u8], more: bool) {
+        for item in item::items(list) {
+            if let Some(start) = state::named(item) {
+                self.note(start, item.reference(), more);
+            }
+        }
+    }
+
+    // Lines of an extent's start and a reference offset.
+    pub fn note_pairs(&mut self, lines: &[u64], more: bool) {
+        for line in lines.chunks_exact(2) {
+            self.note(line[0], line[1], more);
+        }
+    }
+
+    // Adds: start, length, and the key, which is the reference offset.
+    pub fn note_adds(&mut self, lines: &[u64]) {
+        for line in lines.chunks_exact(3) {
+            self.note(line[0], line[2], true);
+        }
+    }
+
+    // The sum of one reference's entries, modulo 2^64.
+    fn weight(&self, of: Entry) -> u64 {
+        let mut sum: u64 = 0;
+        for entry in self.entries.iter().flatten() {
+            if entry.start == of.start && entry.offset == of.offset {
+                sum = if entry.more {
+                    sum.wrapping_add(1)
+                } else {
+                    sum.wrapping_sub(1)
+                };
+            }
+        }
+        sum
+    }
+
+    pub fn is_balanced(&self) -> bool {
+        self.entries.iter().flatten().all(|entry| self.weight(*entry) == 0)
+    }
 }

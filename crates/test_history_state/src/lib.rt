@@ -4,7 +4,8 @@
 
 pub mod between;
 pub mod calls;
+pub mod draws;
 pub mod ledgers;
 pub mod maps;
-pub mod numbers;
+pub mod sectors;
 pub mod state;
