@@ -2,21 +2,25 @@
 // with 165 first: what is past the plan must still be 165.
 ghost use Rattle.std.specs.Prelude.{◌≡◌, ◌+◌, ◌≤◌, length};
 
-use crate::print;
+use crate::print::{self, BLANK};
 use item::Item;
 use request::{File, Range, Volume};
+use std::io;
 use test_call::Operation;
 
 // ---- the file of the worked examples
 
-pub fn volume() -> Volume {
-    Volume {
-        sector: 4096,
-        total: 1073741824,
-        generation: 7,
-        snapshot: 0,
-    }
-}
+pub const VOLUME: Volume = Volume {
+    sector: 4096,
+    total: 1073741824,
+    generation: 7,
+    snapshot: 0,
+};
+
+pub const LAST_GENERATION: Volume = Volume {
+    generation: u64::MAX,
+    ..VOLUME
+};
 
 pub fn file(size: u64) -> File {
     File {
@@ -24,6 +28,10 @@ pub fn file(size: u64) -> File {
         size,
         nodatacow: false,
     }
+}
+
+pub fn range(offset: u64, length: u64) -> Range {
+    Range { offset, length }
 }
 
 // The lowest w bytes of a number over an item's data.
@@ -50,53 +58,67 @@ pub fn item(key: u64, kind: u64, start: u64, length: u64, position: u64, window:
     }
 }
 
-// The file's one item, as a list; a hole where its extent starts at 0.
-pub fn list_of(kind: u64, start: u64) -> [u8; 70]
-    ensures { 70 ≡ length result }
-{
-    let mut list = [0u8; 70];
-    item::put_item(&mut list, 0, item(0, kind, start, 16384, 0, 16384));
+// Items as a list of N bytes; those that find no room are left out.
+pub fn list<const N: usize>(items: &[Item]) -> [u8; N] {
+    let mut list = [0u8; N];
+    for (record, item) in list.chunks_exact_mut(item::RECORD).zip(items) {
+        item::put_item(record, 0, *item);
+    }
     list
 }
 
+// The file's one item, as a list; a hole where its extent starts at 0.
+pub fn list_of(kind: u64, start: u64) -> [u8; 70] {
+    list(&[item(0, kind, start, 16384, 0, 16384)])
+}
+
 // The row of its extent: start, length, references, generation made, keyed.
-pub fn row(bytes: u64, keyed: u64) -> [u64; 5]
-    ensures { 5 ≡ length result }
-{
+pub fn row(bytes: u64, keyed: u64) -> [u64; 5] {
     [1048576, bytes, 1, 5, keyed]
 }
 
 // ---- a case
 
-// Runs an operation and prints its answer and outputs. The caller lends `edits` and `adds`, filled with 165, as some
-// cases have them too short; the other outputs are ours.
-pub fn run_in(
-    rt: &impl Print,
-    name: &[u8],
-    operation: Operation,
-    v: Volume,
-    f: File,
-    r: Range,
-    list: &[u8],
-    shared: &[u8],
-    table: &[u64],
-    places: &[u64],
-    edits: &mut [u8],
-    adds: &mut [u64],
-) {
-    let mut shares = [165u64; 8];
-    let mut unrefs = [165u64; 8];
-    let mut releases = [165u64; 8];
-    let mut writes = [165u64; 8];
+// An operation, all that it is lent, and how many bytes of room there are for edits and numbers for adds.
+#[derive(Clone, Copy)]
+pub struct Case<'a> {
+    pub operation: Operation,
+    pub volume: Volume,
+    pub file: File,
+    pub range: Range,
+    pub list: &'a [u8],
+    pub shared: &'a [u8],
+    pub table: &'a [u64],
+    pub places: &'a [u64],
+    pub edits: usize,
+    pub adds: usize,
+}
+
+// The first n elements, or all.
+pub fn room<T>(out: &mut [T], n: usize) -> &mut [T] {
+    let n = n.min(out.len());
+    &mut out[..n]
+}
+
+// Runs the operation and prints its answer and outputs.
+pub fn run(rt: &impl Print, name: &str, c: Case<'_>) -> io::Result<()> {
+    let mut edits = [BLANK; 426];
+    let mut shares = [BLANK as u64; 8];
+    let mut unrefs = [BLANK as u64; 8];
+    let mut releases = [BLANK as u64; 8];
+    let mut adds = [BLANK as u64; 18];
+    let mut writes = [BLANK as u64; 8];
+    let edits = room(&mut edits, c.edits);
+    let adds = room(&mut adds, c.adds);
     let answer = test_call::answer_of(
-        operation,
-        v,
-        f,
-        r,
-        list,
-        shared,
-        table,
-        places,
+        c.operation,
+        c.volume,
+        c.file,
+        c.range,
+        c.list,
+        c.shared,
+        c.table,
+        c.places,
         edits,
         &mut shares,
         &mut unrefs,
@@ -104,38 +126,9 @@ pub fn run_in(
         adds,
         &mut writes,
     );
-    print::text(rt, name);
-    print::answer(rt, answer);
+    print!(rt; "{name}")?;
+    print::answer(rt, answer)?;
     print::outputs(
         rt, answer, edits, &shares, &unrefs, &releases, adds, &writes,
-    );
-}
-
-// The same, with room for six edits and six adds.
-pub fn run(
-    rt: &impl Print,
-    name: &[u8],
-    operation: Operation,
-    v: Volume,
-    f: File,
-    r: Range,
-    list: &[u8],
-    shared: &[u8],
-    table: &[u64],
-    places: &[u64],
-) {
-    run_in(
-        rt,
-        name,
-        operation,
-        v,
-        f,
-        r,
-        list,
-        shared,
-        table,
-        places,
-        &mut [165u8; 426],
-        &mut [165u64; 18],
-    );
+    )
 }

@@ -8,8 +8,10 @@ mod lent;
 mod print;
 mod punches;
 
-fn main(rt: HostRuntime) {
-    punches::all(&rt);
-    fallocates::all(&rt);
-    clones::all(&rt);
+use std::io;
+
+fn main(rt: HostRuntime) -> io::Result<()> {
+    punches::all(&rt)?;
+    fallocates::all(&rt)?;
+    clones::all(&rt)
 }

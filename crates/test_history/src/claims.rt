@@ -43,10 +43,7 @@ fn list_kept(f: usize, s: &State) -> Result<(), Refusal> {
 
 pub fn kept(f: usize, s: &State) -> Result<(), Claim> {
     check(list_kept(f, s).is_ok(), Claim::ListKept)?;
-    check(
-        table::table_size_refusal(s.rows()).is_ok(),
-        Claim::ListKept,
-    )?;
+    check(table::table_size_refusal(s.rows()).is_ok(), Claim::ListKept)?;
     check(table::table_refusal(s.rows()).is_ok(), Claim::TableKept)
 }
 
@@ -164,13 +161,7 @@ pub fn mapping(call: Call, s: &State, was: &State) -> Result<(), Claim> {
 
 // ---- 5: for each reference, items after + unrefs + releases = items before + shares + adds
 
-pub fn balance(
-    f: usize,
-    n: Numbers,
-    s: &State,
-    was: &State,
-    out: &Outputs,
-) -> Result<(), Claim> {
+pub fn balance(f: usize, n: Numbers, s: &State, was: &State, out: &Outputs) -> Result<(), Claim> {
     let mut ledger = Ledger::new();
     ledger.note_items(was.list(f), true);
     ledger.note_items(s.list(f), false);

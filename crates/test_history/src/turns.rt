@@ -4,9 +4,9 @@ use crate::outputs::Outputs;
 use crate::runs;
 use apply::{Applied, Sizes};
 use request::{Answer, Numbers};
+use test_history_state::between;
 use test_history_state::calls::{self, Call};
 use test_history_state::state::{Counts, State};
-use test_history_state::between;
 
 // ---- an applied plan
 

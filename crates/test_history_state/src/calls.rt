@@ -134,8 +134,16 @@ pub fn next_call(x: u64, s: &State) -> Call {
 fn volume(x: u64, s: &State) -> Volume {
     Volume {
         sector: s.sector(),
-        total: if once_in(x, 41, 32) { 65536 } else { 1073741824 },
-        generation: if once_in(x, 42, 128) { u64::MAX } else { s.generation },
+        total: if once_in(x, 41, 32) {
+            65536
+        } else {
+            1073741824
+        },
+        generation: if once_in(x, 42, 128) {
+            u64::MAX
+        } else {
+            s.generation
+        },
         snapshot: if once_in(x, 43, 8) {
             s.generation.wrapping_sub(draw(x, 40, 16))
         } else {

@@ -73,6 +73,9 @@ impl Ledger {
     }
 
     pub fn is_balanced(&self) -> bool {
-        self.entries.iter().flatten().all(|entry| self.weight(*entry) == 0)
+        self.entries
+            .iter()
+            .flatten()
+            .all(|entry| self.weight(*entry) == 0)
     }
 }
