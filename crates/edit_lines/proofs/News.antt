@@ -3,6 +3,7 @@ use mathlib.Core.Path.{◌≡◌, refl, ◌∙◌, sym}
 use mathlib.Core.Bool.{Bool, true, false, false≢true}
 use mathlib.Core.List.{List, [], ◌∷◌, map}
 use Prim.Native.Nat.{ℕ, ◌+◌, ◌*◌, ◌/◌, ◌<◌, ◌≤◌}
+use Rattle.std.specs.Prelude.{Option, Some, None}
 use native.Mathlib.Omega.{arith}
 use native.Mathlib.Decide.{dec_lt}
 use native.Mathlib.Nat.{add-zero}
@@ -111,37 +112,29 @@ module _ (file generation : ℕ) where
   -- ---- what `next_new` answers
 
   module _ (t p : List ℕ) (j k : ℕ) (r : pairs rises (piece_items file generation p) ≡ true) (hj : j ≤ length t / 70) (hk : k ≤ length p / 3) (b : Bool) (e : b ≡ piece_first (from t j) (drop k (adds_in p))) where
-    pub next_piece : (item : Item) → b ≡ true → fields item ≡ piece (add_in (drop (k * 3) p)) → IsNext file generation t p j k (record { some = true; item = item; j = j; k = k + 1 })
+    pub next_piece : (item : Item) → b ≡ true → fields item ≡ piece (add_in (drop (k * 3) p)) → IsNext file generation t p j k (Some (record { item = item; j = j; k = k + 1 }))
     next_piece item h f =
         let l = piece_some t p j k b e h in
         record {
-          head = record { there = λ s. go (drop k (adds_in p)) (adds_cons p k l) (sym e ∙ h) (rise-from p k r); none = λ s. absurd (false≢true (sym s)) };
-          none = λ s. absurd (false≢true (sym s));
-          on = λ s. omega arith;
-          j = hj;
-          k = omega arith;
+          heads = record { there = λ x s. (let q : record { item = item; j = j; k = k + 1 } ≡ x = cc in rw (← q) (go (drop k (adds_in p)) (adds_cons p k l) (sym e ∙ h) (rise-from p k r))); none = λ s. cc };
+          none = λ s. cc;
+          there = λ x s. (let q : record { item = item; j = j; k = k + 1 } ≡ x = cc in rw (← q) (omega arith, hj, omega arith));
         }
       where
         go : (adds : List Add) → adds ≡ add_in (drop (k * 3) p) ∷ drop (k + 1) (adds_in p) → piece_first (from t j) adds ≡ true → pairs rises (map piece adds) ≡ true → together (map piece adds) (from t j) ≡ built (fields item) ∷ news file generation t p j (k + 1)
         go adds q h r = rw (q, f) (first-new (piece (add_in (drop (k * 3) p))) (map piece (drop (k + 1) (adds_in p))) (from t j) (first-same (add_in (drop (k * 3) p) ∷ drop (k + 1) (adds_in p)) (from t j) ∙ rw q at h) (rw q at r))
 
     -- none is left, or the segment's next one
-    pub next-rest : (next : Next) → b ≡ false → FromSegment t j k next → IsNext file generation t p j k next
+    pub next-rest : (next : Option Next) → b ≡ false → FromSegment t j k next → IsNext file generation t p j k next
     next-rest next h s =
         record {
-          head = record { there = λ z. there z; none = λ z. news-none t p j k (s.none z).0 (piece_gone t p j k b e h (s.none z).0) };
-          none = λ z. ((s.none z).0, piece_gone t p j k b e h (s.none z).0);
-          on = λ z. let x = s.there z in let y = s.k in omega (arith, x.2);
-          j = go next.some refl;
-          k = let y = s.k in omega arith;
+          heads = record { there = λ x z. there x z; none = λ z. news-none t p j k (s.none z) (piece_gone t p j k b e h (s.none z)) };
+          none = λ z. (s.none z, piece_gone t p j k b e h (s.none z));
+          there = λ x z. (let q = s.there x z in (omega (arith, q.2), omega (arith, q.0, q.2), omega (arith, q.3)));
         }
       where
         behind : (gs : List Fields) → gs ≡ decode (drop (j * 70) t) ∷ from t (j + 1) → piece_first gs (drop k (adds_in p)) ≡ false → together (map piece (drop k (adds_in p))) gs ≡ built (decode (drop (j * 70) t)) ∷ news file generation t p (j + 1) k
         behind gs q h = rw q (first-other (map piece (drop k (adds_in p))) (decode (drop (j * 70) t)) (from t (j + 1)) (first-same (drop k (adds_in p)) (decode (drop (j * 70) t) ∷ from t (j + 1)) ∙ rw q at h) (rise-from p k r))
 
-        there : next.some ≡ true → news file generation t p j k ≡ built (fields next.item) ∷ news file generation t p next.j next.k
-        there z = let x = s.there z in rw (x.1, x.2, s.k) (behind (from t j) (from_cons t j x.0) (sym e ∙ h))
-
-        go : (d : Bool) → next.some ≡ d → next.j ≤ length t / 70
-        go true z = let x = s.there z in omega (arith, x.0, x.2)
-        go false z = let x = s.none z in omega (arith, x.1)
+        there : (x : Next) → next ≡ Some x → news file generation t p j k ≡ built (fields x.item) ∷ news file generation t p x.j x.k
+        there x z = let q = s.there x z in rw (q.1, q.2, q.3) (behind (from t j) (from_cons t j q.0) (sym e ∙ h))

@@ -2,7 +2,9 @@
 use mathlib.Core.Path.{◌≡◌, refl}
 use mathlib.Core.Bool.{Bool, true, false, cond}
 use mathlib.Core.List.{List, [], ◌∷◌, flat_map}
-use Prim.Native.Nat.{ℕ, ◌/◌, ◌<◌, ◌≤◌}
+use Prim.Native.Nat.{ℕ, ◌+◌, ◌/◌, ◌<◌, ◌≤◌}
+use Rattle.std.specs.Prelude.{Option, None}
+use Rattle.std.proofs.Common.{inl, inr}
 use native.Mathlib.Omega.{arith}
 use lib.ListN.{length}
 use Rattle.item.specs.Items.{fields}
@@ -11,10 +13,9 @@ use Rattle.cut_def.specs.Edits.{Edit, put, edits}
 use Rattle.plan_def.specs.Outputs.{edit_bytes}
 use Rattle.plan_lines.specs.Lines.{Laid}
 use Rattle.plan_lines.proofs.Laws.{Going, going-turn, going_done}
-use Rattle.edit_merge.specs.declared.Merged.{Merged}
-use Rattle.edit_merge.specs.Merge.{Merging, cursor_after}
+use Rattle.edit_merge.specs.Merge.{GoesOn, Merging}
 use Rattle.edit_merge.proofs.News.{from_nil}
-use Rattle.edit_merge.proofs.Steps.{rest-rises}
+use Rattle.edit_merge.proofs.Steps.{left-rises}
 use Rattle.edit_merge.specs.declared.Next.{Next}
 use Rattle.edit_merge.specs.declared.MergeCursor.{MergeCursor}
 use Rattle.edit_lines.specs.Merge.{news, edits_from, IsNext, Ready, Stepped}
@@ -23,37 +24,30 @@ use Rattle.edit_lines.proofs.News.{news-none}
 -- ---- a step
 
 -- an old item is left where no new one is
-pub old-left : (file generation : ℕ) (t p s : List ℕ) (at : MergeCursor) (next : Next) → Ready file generation t p s at → IsNext file generation t p at.j at.k next → next.some ≡ false → at.i < length s / 70
+pub old-left :
+    (file generation : ℕ) (t p s : List ℕ) (at : MergeCursor) (next : Option Next)
+    → Ready file generation t p s at → IsNext file generation t p at.j at.k next → next ≡ None → at.i < length s / 70
 old-left file generation t p s at next r x u = let z = x.none u in omega (arith, r.some, z.0, z.1)
 
-module _ (file generation : ℕ) (t p s : List ℕ) (at : MergeCursor) (next : Next) (out out' : List ℕ) (r : Ready file generation t p s at) (x : IsNext file generation t p at.j at.k next) (m : Merged) (g : Merging file s at.i next.some (fields next.item) at.n out m out') where
-  pub stepped : (to : MergeCursor) → to ≡ cursor_after at next m → Stepped file generation t p s at out to out'
-  stepped to q = rw q (go m.put refl)
-    where
-      go : (b : Bool) → m.put ≡ b → Stepped file generation t p s at out (record { i = m.i; j = cond b next.j at.j; k = cond b next.k at.k; n = m.n }) out'
-      go true h =
-          let u = g.there h in
-          record {
-            edit = g.edit;
-            first = rw h at (g.first (news file generation t p at.j at.k) (news file generation t p next.j next.k) x.head r.news);
-            news = rest-rises (fields next.item) (items_of (news file generation t p next.j next.k)) (rw (x.head.there u) at r.news);
-            laid = g.laid;
-            on = omega (arith, x.on u, g.least);
-            i = g.most;
-            j = x.j;
-            k = x.k;
-          }
-      go false h =
-          record {
-            edit = g.edit;
-            first = rw h at (g.first (news file generation t p at.j at.k) (news file generation t p next.j next.k) x.head r.news);
-            news = r.news;
-            laid = g.laid;
-            on = omega (arith, g.on h);
-            i = g.most;
-            j = r.j;
-            k = r.k;
-          }
+pub stepped :
+    (file generation : ℕ) (t p s : List ℕ) (at : MergeCursor) (next : Option Next) (out : List ℕ) (to : MergeCursor) (out' : List ℕ)
+    → Ready file generation t p s at → IsNext file generation t p at.j at.k next → Merging file s at next out to out' → Stepped file generation t p s at out to out'
+stepped file generation t p s at next out to out' r x g =
+    let l = by g.on in
+    record {
+      edit = g.edit;
+      first = g.first (news file generation t p) x.heads r.news;
+      news = left-rises (news file generation t p) at next to x.heads g.on r.news;
+      laid = g.laid;
+      on = l.0;
+      i = g.most;
+      j = l.1;
+      k = l.2;
+    }
+  where
+    by : GoesOn at next to → (at.i + (at.j + at.k) < to.i + (to.j + to.k)) × (to.j ≤ length t / 70) × (to.k ≤ length p / 3)
+    by (inl q) = (omega (arith, q.0, q.1, q.2), omega (arith, q.0, r.j), omega (arith, q.1, r.k))
+    by (inr q) = let z = x.there q.0 q.1 in (omega (arith, q.2, q.3, z.0, g.least), omega (arith, q.2, z.1), omega (arith, q.3, z.2))
 
 -- ---- the loop
 

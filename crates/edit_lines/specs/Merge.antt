@@ -1,15 +1,15 @@
 -- For the code only: the edits between an old list and the new items, a segment with pieces among it: which new item is the next, and
 -- what a step does.
-use Rattle.std.specs.Prelude.{◌≡◌, Bool, true, false, List, [], ◌∷◌, map, ℕ, ◌+◌, ◌/◌, ◌≤◌, ◌<◌, ◌^◌, ltb, length, drop}
+use Rattle.std.specs.Prelude.{◌≡◌, Bool, true, false, Option, Some, None, List, [], ◌∷◌, map, ℕ, ◌+◌, ◌/◌, ◌≤◌, ◌<◌, ◌^◌, ltb, length, drop}
 use Rattle.records.specs.Stages.{pairs}
-use Rattle.item.specs.Items.{Fields, fields, items}
+use Rattle.item.specs.Items.{Fields, items}
 use Rattle.lists.specs.Lists.{rises}
 use Rattle.cut_def.specs.Pieces.{Piece, items_of}
 use Rattle.cut_def.specs.Edits.{Edit, edits}
 use Rattle.plan_def.specs.Plans.{Add}
 use Rattle.plan_def.specs.Outputs.{edit_bytes}
 use Rattle.plan_lines.specs.Lines.{Laid}
-use Rattle.edit_merge.specs.Merge.{from, together, Head}
+use Rattle.edit_merge.specs.Merge.{from, together, Heads}
 use Rattle.plan_def.specs.ReadBack.{adds_in}
 use Rattle.edit_lines.specs.Pieced.{piece_item, piece_items}
 use Rattle.edit_merge.specs.declared.Next.{Next}
@@ -28,12 +28,10 @@ module _ (file generation : ℕ) where
     news j k = together (map (piece_item file generation) (drop k (adds_in pieces))) (from segment j)
 
     -- the first of them and what is left behind it, or that none is left
-    pub record IsNext (j₀ k₀ : ℕ) (next : Next) : Type 0 where
-      pub head : Head next.some (fields next.item) (news j₀ k₀) (news next.j next.k)
-      pub none : next.some ≡ false → (length segment / 70 ≤ j₀) × (length pieces / 3 ≤ k₀)
-      pub on : next.some ≡ true → j₀ + k₀ < next.j + next.k
-      pub j : next.j ≤ length segment / 70
-      pub k : next.k ≤ length pieces / 3
+    pub record IsNext (j k : ℕ) (next : Option Next) : Type 0 where
+      pub heads : Heads news j k next
+      pub none : next ≡ None → (length segment / 70 ≤ j) × (length pieces / 3 ≤ k)
+      pub there : (x : Next) → next ≡ Some x → (j + k < x.j + x.k) × (x.j ≤ length segment / 70) × (x.k ≤ length pieces / 3)
 
     module _ (was : List ℕ) where
       -- the edits that are left

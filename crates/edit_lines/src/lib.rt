@@ -45,20 +45,22 @@ fn is_piece(segment: &[u8], pieces: &[u64], j: usize, k: usize) -> bool
 }
 
 // The next piece or the segment's next item, whichever has the lower key.
-fn next_new(segment: &[u8], pieces: &[u64], file: u64, generation: u64, j: usize, k: usize) -> Next
+fn next_new(
+    segment: &[u8],
+    pieces: &[u64],
+    file: u64,
+    generation: u64,
+    j: usize,
+    k: usize,
+) -> Option<Next>
     requires { (pairs rises (piece_items file generation pieces.now) ≡ true) × (j ≤ length segment.now / 70) × (k ≤ length pieces.now / 3) }
     ensures { IsNext file generation segment.now pieces.now j k result }
 {
     if is_piece(segment, pieces, j, k) {
         let item = piece_at(pieces, k, file, generation);
-        return Next {
-            some: true,
-            item,
-            j,
-            k: k + 1,
-        };
+        return Some(Next { item, j, k: k + 1 });
     }
-    edit_merge::segment_next(segment, file, j, k)
+    edit_merge::segment_next(segment, j, k)
 }
 
 // ---- the merge
@@ -77,8 +79,7 @@ fn step(
     ensures { Stepped file generation segment.now pieces.now was.now at out.old result out.new }
 {
     let next = next_new(segment, pieces, file, generation, at.j, at.k);
-    let m = edit_merge::put_next(was, at.i, next.some, next.item, file, out, at.n);
-    edit_merge::cursor_after(at, next, m)
+    edit_merge::put_next(was, at, next, file, out)
 }
 
 // The edits that turn a part of a file's list into a segment with new pieces among it: by rising keys, a put of each new

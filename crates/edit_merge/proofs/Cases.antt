@@ -3,6 +3,7 @@ use mathlib.Core.Path.{◌≡◌, refl, ◌∙◌, sym}
 use mathlib.Core.Bool.{Bool, true, false, cond}
 use mathlib.Core.List.{List, [], ◌∷◌, map}
 use Prim.Native.Nat.{◌<◌, ◌≤◌}
+use Rattle.std.specs.Prelude.{Some}
 use native.Mathlib.Omega.{arith}
 use lib.Dec.{eqb}
 use borrow.Author.Tests.{ltb-true, ltb-false, lt-ltb, eqb-true, eqb-false}
@@ -27,13 +28,13 @@ pieces-over f ps h = sym (every-mapped (rises f) (λ (p : Piece). p.item) ps) �
 pub made_over : (f : Fields) (gs : List Fields) → every (rises f) gs ≡ true → every (over f.key) (map built gs) ≡ true
 made_over f gs h = rw (every-mapped (over f.key) built gs) h
 
-pub merge_gone : (f : Fields) (fs : List Fields) (g : Fields) (ps : List Piece) → gone true g.key (f ∷ fs) ≡ true → pairs rises (items_of (built g ∷ ps)) ≡ true → edits (f ∷ fs) (built g ∷ ps) ≡ delete f.key ∷ edits fs (built g ∷ ps)
+pub merge_gone : (f : Fields) (fs : List Fields) (g : Fields) (ps : List Piece) → gone (Some g.key) (f ∷ fs) ≡ true → pairs rises (items_of (built g ∷ ps)) ≡ true → edits (f ∷ fs) (built g ∷ ps) ≡ delete f.key ∷ edits fs (built g ∷ ps)
 unfolding pairs every
 merge_gone f fs g ps h r =
     let l = ltb-true f.key g.key h in
     edits-gone f fs (built g ∷ ps) (pieces-over f (built g ∷ ps) (both (rises f g) (every (rises f) (items_of ps)) h (rises-from g f (items_of ps) (omega arith) (both_left (every (rises g) (items_of ps)) (pairs rises (items_of ps)) r))))
 
-pub merge_put : (fs : List Fields) (g : Fields) (ps : List Piece) → gone true g.key fs ≡ false → pairs rises fs ≡ true → pairs rises (items_of (built g ∷ ps)) ≡ true → edits fs (built g ∷ ps) ≡ put g ∷ edits (behind g.key fs) ps
+pub merge_put : (fs : List Fields) (g : Fields) (ps : List Piece) → gone (Some g.key) fs ≡ false → pairs rises fs ≡ true → pairs rises (items_of (built g ∷ ps)) ≡ true → edits fs (built g ∷ ps) ≡ put g ∷ edits (behind g.key fs) ps
 unfolding pairs every
 merge_put [] g ps h u v = edits-first [] (built g) ps refl
 merge_put (f ∷ fs) g ps h u v = go (eqb f.key g.key) refl

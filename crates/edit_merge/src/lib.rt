@@ -1,20 +1,30 @@
 // A plan's edits, one at a time: the next edit between an old list and the next new item (`put_next`).
 #![tactic(auto)]
 
-ghost use Rattle.std.specs.Prelude.{◌≡◌, true, false, List, [], ◌∷◌, ℕ, ◌+◌, ◌/◌, ◌≤◌, ◌<◌, ◌^◌, length};
+ghost use Rattle.std.specs.Prelude.{◌≡◌, true, None, ◌∷◌, ◌+◌, ◌/◌, ◌≤◌, ◌<◌, ◌^◌, [], length};
 ghost use Rattle.records.specs.Lent.{old, new};
 ghost use Rattle.records.specs.Stages.{pairs};
 ghost use Rattle.endian.specs.Le.{put as put_over};
 ghost use Rattle.item.specs.Items.{fields, items, encode};
 ghost use Rattle.item.specs.Raw.{blank};
 ghost use Rattle.lists.specs.Lists.{rises};
-ghost use Rattle.cut_def.specs.Edits.{put, delete};
 ghost use Rattle.plan_def.specs.Outputs.{edit_bytes};
 ghost use Rattle.plan_lines.specs.Lines.{Laid};
-ghost use Rattle.edit_merge.specs.Merge.{from, gone, behind, Merging, FromSegment, cursor_after};
+ghost use Rattle.edit_merge.specs.Merge.{edit_of, from, gone, behind, Merging, FromSegment};
 
 use item::Item;
-use records::either;
+
+// An edit of a file's list: an item that is put at its key, or a key that is deleted.
+#[derive(Clone, Copy)]
+enum Edit {
+    Put(Item),
+    Delete(u64),
+}
+
+// The first of an edit's bytes.
+const PUT: u8 = 1;
+
+const DELETE: u8 = 2;
 
 // An edit's 71 bytes over out, from `at`: a tag and a record.
 fn put_tagged(out: &mut [u8], at: usize, tag: u8, item: Item)
@@ -23,26 +33,6 @@ fn put_tagged(out: &mut [u8], at: usize, tag: u8, item: Item)
 {
     out[at] = tag;
     item::put_item(out, at + 1, item);
-}
-
-// The same as line n.
-fn put_edit(out: &mut [u8], n: usize, tag: u8, item: Item) -> usize
-    requires { n + 1 < 2 ^ 64 }
-    ensures { Laid (λ (bytes : List ℕ). bytes) 71 n ((tag ∷ encode (fields item)) ∷ []) out.old result out.new }
-{
-    if n >= out.len() / item::EDIT {
-        return n + 1;
-    }
-    put_tagged(out, n * item::EDIT, tag, item);
-    n + 1
-}
-
-// The edit that puts an item, as line n.
-fn put_put(out: &mut [u8], n: usize, item: Item) -> usize
-    requires { n + 1 < 2 ^ 64 }
-    ensures { (file : ℕ) → Laid (edit_bytes file) 71 n (put (fields item) ∷ []) out.old result out.new }
-{
-    put_edit(out, n, 1, item)
 }
 
 // An item without data: a delete's record.
@@ -57,25 +47,41 @@ fn without_data(file: u64, key: u64) -> Item
     }
 }
 
-// The edit that deletes a file's key, as line n.
-fn put_delete(out: &mut [u8], n: usize, file: u64, key: u64) -> usize
-    requires { n + 1 < 2 ^ 64 }
-    ensures { Laid (edit_bytes file) 71 n (delete key ∷ []) out.old result out.new }
+// An edit of a file's list over the bytes from `at`.
+fn put_bytes(out: &mut [u8], at: usize, file: u64, edit: Edit)
+    requires { at + 71 ≤ length out.old }
+    ensures { out.new ≡ put_over (edit_bytes file (edit_of edit)) at out.old }
 {
-    put_edit(out, n, 2, without_data(file, key))
+    match edit {
+        Edit::Put(item) => put_tagged(out, at, PUT, item),
+        Edit::Delete(key) => put_tagged(out, at, DELETE, without_data(file, key)),
+    }
+}
+
+// The same as line n.
+fn put_edit(out: &mut [u8], n: usize, file: u64, edit: Edit) -> usize
+    requires { n + 1 < 2 ^ 64 }
+    ensures { Laid (edit_bytes file) 71 n (edit_of edit ∷ []) out.old result out.new }
+{
+    if n < out.len() / item::EDIT {
+        put_bytes(out, n * item::EDIT, file, edit);
+    }
+    n + 1
 }
 
 // ---- the merge
 
 // Whether the old list's next key comes before the next new one, if there is one.
-pub fn is_gone(was: &[u8], i: usize, some: bool, key: u64) -> bool
-    ensures { result ≡ gone some key (from was.now i) }
+pub fn is_gone(was: &[u8], i: usize, key: Option<u64>) -> bool
+    ensures { result ≡ gone key (from was.now i) }
 {
     if i >= was.len() / item::RECORD {
         return false;
     }
-    let f = item::item_at(was, i);
-    either(!some, f.key < key)
+    let Some(key) = key else {
+        return true;
+    };
+    item::item_at(was, i).key < key
 }
 
 // The old list's next item behind a key that is put: one more than i where i has that key.
@@ -93,52 +99,11 @@ pub fn passed(was: &[u8], i: usize, key: u64) -> usize
     i
 }
 
-// What a step of a merge gives: whether the new item was put, the old list's next item, and how many edits there are.
-#[derive(Clone, Copy)]
-pub struct Merged {
-    pub put: bool,
-    pub i: usize,
-    pub n: usize,
-}
-
-// The next edit, where record i of the old list is the next, and `item` the next new one, if there is `some`: a delete of
-// an old key that comes before it, or a put, which passes the old item of its key.
-pub fn put_next(
-    was: &[u8],
-    i: usize,
-    some: bool,
-    item: Item,
-    file: u64,
-    out: &mut [u8],
-    n: usize,
-) -> Merged
-    requires { (pairs rises (items was.now) ≡ true) × (i ≤ length was.now / 70) × (some ≡ false → i < length was.now / 70) × (n + 1 < 2 ^ 64) }
-    ensures { Merging file was.now i some (fields item) n out.old result out.new }
-{
-    if is_gone(was, i, some, item.key) {
-        let f = item::item_at(was, i);
-        let m = put_delete(out, n, file, f.key);
-        return Merged {
-            put: false,
-            i: i + 1,
-            n: m,
-        };
-    }
-    let k = passed(was, i, item.key);
-    let m = put_put(out, n, item);
-    Merged {
-        put: true,
-        i: k,
-        n: m,
-    }
-}
-
 // ---- loops over a merge, whose new items are a segment with others among it
 
-// The next new item, if there is one, and what is left behind it: the segment from item j on, the others from k on.
+// The next new item, and what is left behind it: the segment from item j on, the others from k on.
 #[derive(Clone, Copy)]
 pub struct Next {
-    pub some: bool,
     pub item: Item,
     pub j: usize,
     pub k: usize,
@@ -153,44 +118,46 @@ pub struct MergeCursor {
     pub n: usize,
 }
 
-// The segment's next item, where none of the others comes before it.
-pub fn segment_next(segment: &[u8], file: u64, j: usize, k: usize) -> Next
-    ensures { FromSegment segment.now j k result }
+// The next edit, where record i of the old list and `next` of the new items come next: a delete of an old key that comes
+// before the new one, or a put, which passes the old item of its key.
+pub fn put_next(
+    was: &[u8],
+    at: MergeCursor,
+    next: Option<Next>,
+    file: u64,
+    out: &mut [u8],
+) -> MergeCursor
+    requires { (pairs rises (items was.now) ≡ true) × (at.i ≤ length was.now / 70) × (next ≡ None → at.i < length was.now / 70) × (at.n + 1 < 2 ^ 64) }
+    ensures { Merging file was.now at next out.old result out.new }
 {
-    if j >= segment.len() / item::RECORD {
-        let item = without_data(file, 0);
-        return Next {
-            some: false,
-            item,
-            j,
-            k,
-        };
-    }
-    let item = item::item_at(segment, j);
-    Next {
-        some: true,
-        item,
-        j: j + 1,
-        k,
+    match next {
+        Some(new) if !is_gone(was, at.i, Some(new.item.key)) => MergeCursor {
+            i: passed(was, at.i, new.item.key),
+            j: new.j,
+            k: new.k,
+            n: put_edit(out, at.n, file, Edit::Put(new.item)),
+        },
+        _ => {
+            let old = item::item_at(was, at.i);
+            MergeCursor {
+                i: at.i + 1,
+                n: put_edit(out, at.n, file, Edit::Delete(old.key)),
+                ..at
+            }
+        }
     }
 }
 
-// Where a merge is behind a step: past the new item, if it was put.
-pub fn cursor_after(at: MergeCursor, next: Next, m: Merged) -> MergeCursor
-    ensures { result ≡ cursor_after at next m }
+// The segment's next item, where none of the others comes before it.
+pub fn segment_next(segment: &[u8], j: usize, k: usize) -> Option<Next>
+    ensures { FromSegment segment.now j k result }
 {
-    if m.put {
-        return MergeCursor {
-            i: m.i,
-            j: next.j,
-            k: next.k,
-            n: m.n,
-        };
+    if j >= segment.len() / item::RECORD {
+        return None;
     }
-    MergeCursor {
-        i: m.i,
-        j: at.j,
-        k: at.k,
-        n: m.n,
-    }
+    Some(Next {
+        item: item::item_at(segment, j),
+        j: j + 1,
+        k,
+    })
 }
