@@ -3,6 +3,7 @@ use mathlib.Core.Path.{◌≡◌, refl, ap, ap₂, ◌∙◌, sym}
 use mathlib.Core.Bool.{Bool, true, false, cond, false≢true}
 use mathlib.Core.List.{List, [], ◌∷◌, ◌++◌, map}
 use Prim.Native.Nat.{ℕ, suc, ◌+◌, ◌*◌, ◌/◌, ◌≤◌, ◌<◌}
+use Rattle.std.specs.Prelude.{Option, Some}
 use native.Mathlib.Omega.{arith}
 use native.Mathlib.Decide.{dec_lt}
 use lib.Dec.{eqb}
@@ -39,7 +40,7 @@ edits_up e es h = (rising_up key_of (e ∷ es) h).1
 pub old_last : (f : Fields) (fs : List Fields) → items_after (f ∷ fs) [] ≡ kept f ∷ items_after fs []
 old_last f fs = after_kept f fs [] tt
 
-pub old-first : (f : Fields) (fs : List Fields) (e : Edit) (es : List Edit) → pairs edits_rise (e ∷ es) ≡ true → gone true (key_of e) (f ∷ fs) ≡ true → items_after (f ∷ fs) (e ∷ es) ≡ kept f ∷ items_after fs (e ∷ es)
+pub old-first : (f : Fields) (fs : List Fields) (e : Edit) (es : List Edit) → pairs edits_rise (e ∷ es) ≡ true → gone (Some (key_of e)) (f ∷ fs) ≡ true → items_after (f ∷ fs) (e ∷ es) ≡ kept f ∷ items_after fs (e ∷ es)
 old-first f fs e es r h = after_kept f fs (e ∷ es) (ltb-true f.key (key_of e) h, edits_up e es r)
 
 -- an edit before all old records
@@ -48,7 +49,7 @@ edit-before fs (put x) es u v = after-put x fs es u v
 edit-before fs (delete k) es u v = after-delete k fs es u
 
 -- one before them, or at the first one's key, which it passes
-pub edit-first : (fs : List Fields) (e : Edit) (es : List Edit) → pairs rises fs ≡ true → pairs edits_rise (e ∷ es) ≡ true → gone true (key_of e) fs ≡ false → items_after fs (e ∷ es) ≡ map built (put_of e) ++ items_after (behind (key_of e) fs) es
+pub edit-first : (fs : List Fields) (e : Edit) (es : List Edit) → pairs rises fs ≡ true → pairs edits_rise (e ∷ es) ≡ true → gone (Some (key_of e)) fs ≡ false → items_after fs (e ∷ es) ≡ map built (put_of e) ++ items_after (behind (key_of e) fs) es
 edit-first [] e es u v h = edit-before [] e es tt (edits_up e es v)
 edit-first (f ∷ fs) e es u v h = go (eqb f.key (key_of e)) refl
   where
@@ -82,8 +83,8 @@ unfolding edit_in
 delete_read s h = rw h refl
 
 -- an old record that comes first is there
-pub gone-there : (s : Bool) (k : ℕ) (list : List ℕ) (i : ℕ) → gone s k (from list i) ≡ true → i < length list / 70
-gone-there s k list i h =
+pub gone-there : (k : Option ℕ) (list : List ℕ) (i : ℕ) → gone k (from list i) ≡ true → i < length list / 70
+gone-there k list i h =
     elim (dec_lt i (length list / 70)) [
       | yes l ↦ l
       | no m ↦ absurd (false≢true (rw (from_nil list i (omega arith)) at h))
@@ -131,11 +132,11 @@ module _ (list edits : List ℕ) (rise : Rising list edits) (i j : ℕ) (hi : i 
     rise-from = rw first-edit at news
 
     -- an old record before it
-    pub walked_old : (b : Bool) (o : Item) → b ≡ gone true r.key (from list i) → b ≡ true → o ≡ item_of (drop (i * 70) list) → Walked list edits i j (record { origin = Kept i; item = o; i = i + 1; j = j })
+    pub walked_old : (b : Bool) (o : Item) → b ≡ gone (Some r.key) (from list i) → b ≡ true → o ≡ item_of (drop (i * 70) list) → Walked list edits i j (record { origin = Kept i; item = o; i = i + 1; j = j })
     walked_old b o q t x =
-        let l = gone-there true r.key list i (sym q ∙ t) in
+        let l = gone-there (Some r.key) list i (sym q ∙ t) in
         let f : fields o ≡ decode (drop (i * 70) list) = item-decode o _ x in
-        let g : gone true (key_of edit) (decode (drop (i * 70) list) ∷ from list (i + 1)) ≡ true = ap₂ (gone true) key (sym (from_cons list i l)) ∙ sym q ∙ t in
+        let g : gone (Some (key_of edit)) (decode (drop (i * 70) list) ∷ from list (i + 1)) ≡ true = ap₂ (λ k. gone (Some k)) key (sym (from_cons list i l)) ∙ sym q ∙ t in
         record {
           first = ap₂ items_after (from_cons list i l) first-edit ∙ old-first _ _ edit _ rise-from g ∙ ap₂ (λ (g : Fields) (es : List Edit). kept g ∷ items_after (from list (i + 1)) es) (sym f) (sym first-edit);
           from = kept_at (fields o) l f;
@@ -145,7 +146,7 @@ module _ (list edits : List ℕ) (rise : Rising list edits) (i j : ℕ) (hi : i 
         }
 
     -- the edit first: n is what is left of the list behind its key
-    module _ (b : Bool) (q : b ≡ gone true r.key (from list i)) (t : b ≡ false) (n : ℕ) (p : (from list n ≡ behind r.key (from list i)) × (i ≤ n) × (n ≤ length list / 70)) where
+    module _ (b : Bool) (q : b ≡ gone (Some r.key) (from list i)) (t : b ≡ false) (n : ℕ) (p : (from list n ≡ behind r.key (from list i)) × (i ≤ n) × (n ≤ length list / 70)) where
       edit-step : left list edits i j ≡ map built (put_of edit) ++ left list edits n (j + 1)
       edit-step =
           ap (items_after (from list i)) first-edit

@@ -108,7 +108,7 @@ pub fn next_record(list: &[u8], edits: &[u8], i: usize, j: usize) -> Step
         };
     }
     let item = plan_lines::edit_item(edits, j);
-    if edit_merge::is_gone(list, i, true, item.key) {
+    if edit_merge::is_gone(list, i, Some(item.key)) {
         let old = item::item_at(list, i);
         return Step {
             origin: Origin::Kept(i),

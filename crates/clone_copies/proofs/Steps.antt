@@ -1,8 +1,10 @@
 -- The steps of a merge with copies, from what its calls ensure. Assumes nothing.
 use mathlib.Core.Path.{◌≡◌, refl, ◌∙◌, sym}
-use mathlib.Core.Bool.{Bool, true, false, cond, false≢true}
+use mathlib.Core.Bool.{Bool, true, false}
 use mathlib.Core.List.{List, [], ◌∷◌}
 use Prim.Native.Nat.{ℕ, ◌+◌, ◌*◌, ◌/◌, ◌<◌, ◌≤◌}
+use Rattle.std.specs.Prelude.{Option, Some, None}
+use Rattle.std.proofs.Common.{inl, inr}
 use native.Mathlib.Omega.{arith}
 use lib.ListN.{length, drop}
 use Rattle.records.specs.Stages.{pairs}
@@ -16,10 +18,9 @@ use Rattle.plan_lines.specs.Lines.{Laid}
 use Rattle.plan_lines.proofs.Laws.{Going, going_first, going-turn}
 use Rattle.edit_merge.specs.declared.Next.{Next}
 use Rattle.edit_merge.specs.declared.MergeCursor.{MergeCursor}
-use Rattle.edit_merge.specs.declared.Merged.{Merged}
-use Rattle.edit_merge.specs.Merge.{from, together, comes_first, Merging, FromSegment, cursor_after}
+use Rattle.edit_merge.specs.Merge.{from, together, comes_first, GoesOn, Merging, FromSegment}
 use Rattle.edit_merge.proofs.News.{from_cons, from_nil, first-new, first-other}
-use Rattle.edit_merge.proofs.Steps.{rest-rises, merge_end}
+use Rattle.edit_merge.proofs.Steps.{left-rises, merge_end}
 use Rattle.clone_items.specs.declared.Copying.{Copying}
 use Rattle.clone_items.specs.Copies.{clone_item, clones}
 use Rattle.clone_copies.specs.Walk.{Settled, Sought, news, IsNext, edits_from, Good, Ready, Stepped}
@@ -33,68 +34,56 @@ news-none c s t j k h l = rw (from_nil t j h, walk_end c s k l) refl
 -- ---- the next new item
 
 module _ (c : Copying) (s t : List ℕ) (j k : ℕ) (r : pairs rises (clones c (items s)) ≡ true) (hj : j ≤ length t / 70) (w : Settled c s k) (b : Bool) (e : b ≡ comes_first (clones c (from s k)) (from t j)) where
-  pub next_copy : (item : Item) (next : ℕ) → b ≡ true → k < length s / 70 → fields item ≡ clone_item c (decode (drop (k * 70) s)) → Sought c s (k + 1) next → IsNext c s t j k (record { some = true; item = item; j = j; k = next })
+  pub next_copy :
+      (item : Item) (next : ℕ) → b ≡ true → k < length s / 70 → fields item ≡ clone_item c (decode (drop (k * 70) s)) → Sought c s (k + 1) next
+      → IsNext c s t j k (Some (record { item = item; j = j; k = next }))
   next_copy item next h l f q =
       record {
-        head = record { there = λ z. go (clones c (from s k)) (walk_copied c s k l (w.there l)) (sym e ∙ h) (copies-rise c s k r); none = λ z. absurd (false≢true (sym z)) };
-        none = λ z. absurd (false≢true (sym z));
-        on = λ z. omega (arith, q.least);
-        j = hj;
-        settled = q.settled;
+        heads = record { there = λ x z. (let y : record { item = item; j = j; k = next } ≡ x = cc in rw (← y) (go (clones c (from s k)) (walk_copied c s k l (w.there l)) (sym e ∙ h) (copies-rise c s k r))); none = λ z. cc };
+        none = λ z. cc;
+        there = λ x z. (let y : record { item = item; j = j; k = next } ≡ x = cc in rw (← y) (omega (arith, q.least), hj, q.settled));
       }
     where
       go : (ys : List Fields) → ys ≡ clone_item c (decode (drop (k * 70) s)) ∷ clones c (from s (k + 1)) → comes_first ys (from t j) ≡ true → pairs rises ys ≡ true → together ys (from t j) ≡ built (fields item) ∷ news c s t j next
       go ys x h u = rw (x, f, q.same) (first-new (clone_item c (decode (drop (k * 70) s))) (clones c (from s (k + 1))) (from t j) (rw x at h) (rw x at u))
 
   -- none is left, or the segment's next one
-  pub next-rest : (next : Next) → b ≡ false → FromSegment t j k next → IsNext c s t j k next
+  pub next-rest : (next : Option Next) → b ≡ false → FromSegment t j k next → IsNext c s t j k next
   next-rest next h q =
       record {
-        head = record { there = λ z. there z; none = λ z. news-none c s t j k (q.none z).0 (copy_gone c s t j k w b e h (q.none z).0) };
-        none = λ z. ((q.none z).0, copy_gone c s t j k w b e h (q.none z).0);
-        on = λ z. let x = q.there z in let y = q.k in omega (arith, x.2);
-        j = go next.some refl;
-        settled = rw q.k w;
+        heads = record { there = λ x z. there x z; none = λ z. news-none c s t j k (q.none z) (copy_gone c s t j k w b e h (q.none z)) };
+        none = λ z. (q.none z, copy_gone c s t j k w b e h (q.none z));
+        there = λ x z. (let y = q.there x z in (omega (arith, y.2), omega (arith, y.0, y.2), rw y.3 w));
       }
     where
       behind : (gs : List Fields) → gs ≡ decode (drop (j * 70) t) ∷ from t (j + 1) → comes_first (clones c (from s k)) gs ≡ false → together (clones c (from s k)) gs ≡ built (decode (drop (j * 70) t)) ∷ news c s t (j + 1) k
       behind gs x h = rw x (first-other (clones c (from s k)) (decode (drop (j * 70) t)) (from t (j + 1)) (rw x at h) (copies-rise c s k r))
 
-      there : next.some ≡ true → news c s t j k ≡ built (fields next.item) ∷ news c s t next.j next.k
-      there z = let x = q.there z in rw (x.1, x.2, q.k) (behind (from t j) (from_cons t j x.0) (sym e ∙ h))
-
-      go : (d : Bool) → next.some ≡ d → next.j ≤ length t / 70
-      go true z = let x = q.there z in omega (arith, x.0, x.2)
-      go false z = let x = q.none z in omega (arith, x.1)
+      there : (x : Next) → next ≡ Some x → news c s t j k ≡ built (fields x.item) ∷ news c s t x.j x.k
+      there x z = let y = q.there x z in rw (y.1, y.2, y.3) (behind (from t j) (from_cons t j y.0) (sym e ∙ h))
 
 -- ---- a step
 
 -- an old item is left where no new one is
-pub old-left : (c : Copying) (s t o : List ℕ) (at : MergeCursor) (next : Next) → Ready c s t o at → IsNext c s t at.j at.k next → next.some ≡ false → at.i < length o / 70
+pub old-left : (c : Copying) (s t o : List ℕ) (at : MergeCursor) (next : Option Next) → Ready c s t o at → IsNext c s t at.j at.k next → next ≡ None → at.i < length o / 70
 old-left c s t o at next r x u = let z = x.none u in omega (arith, r.some, z.0, z.1)
 
-module _ (c : Copying) (s t o : List ℕ) (at : MergeCursor) (next : Next) (out out' : List ℕ) (r : Ready c s t o at) (x : IsNext c s t at.j at.k next) (m : Merged) (g : Merging c.number o at.i next.some (fields next.item) at.n out m out') where
-  pub stepped : (to : MergeCursor) → to ≡ cursor_after at next m → Stepped c s t o at out to out'
-  stepped to q = rw q (go m.put refl)
-    where
-      go : (b : Bool) → m.put ≡ b → Stepped c s t o at out (record { i = m.i; j = cond b next.j at.j; k = cond b next.k at.k; n = m.n }) out'
-      go true h =
-          let u = g.there h in
-          record {
-            edit = g.edit;
-            first = rw h at (g.first (news c s t at.j at.k) (news c s t next.j next.k) x.head r.good.news);
-            laid = g.laid;
-            on = omega (arith, x.on u, g.least);
-            good = record { news = rest-rises (fields next.item) (items_of (news c s t next.j next.k)) (rw (x.head.there u) at r.good.news); i = g.most; j = x.j; settled = x.settled };
-          }
-      go false h =
-          record {
-            edit = g.edit;
-            first = rw h at (g.first (news c s t at.j at.k) (news c s t next.j next.k) x.head r.good.news);
-            laid = g.laid;
-            on = omega (arith, g.on h);
-            good = record { news = r.good.news; i = g.most; j = r.good.j; settled = r.good.settled };
-          }
+pub stepped :
+    (c : Copying) (s t o : List ℕ) (at : MergeCursor) (next : Option Next) (out : List ℕ) (to : MergeCursor) (out' : List ℕ)
+    → Ready c s t o at → IsNext c s t at.j at.k next → Merging c.number o at next out to out' → Stepped c s t o at out to out'
+stepped c s t o at next out to out' r x g =
+    let l = by g.on in
+    record {
+      edit = g.edit;
+      first = g.first (news c s t) x.heads r.good.news;
+      laid = g.laid;
+      on = l.0;
+      good = record { news = left-rises (news c s t) at next to x.heads g.on r.good.news; i = g.most; j = l.1; settled = l.2 };
+    }
+  where
+    by : GoesOn at next to → (at.i + (at.j + at.k) < to.i + (to.j + to.k)) × (to.j ≤ length t / 70) × Settled c s to.k
+    by (inl q) = (omega (arith, q.0, q.1, q.2), omega (arith, q.0, r.good.j), rw q.1 r.good.settled)
+    by (inr q) = let z = x.there q.0 q.1 in (omega (arith, q.2, q.3, z.0, g.least), omega (arith, q.2, z.1), rw q.3 z.2)
 
 -- ---- the loop
 

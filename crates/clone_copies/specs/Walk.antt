@@ -13,7 +13,7 @@ use Rattle.plan_def.specs.Outputs.{edit_bytes}
 use Rattle.plan_lines.specs.Lines.{Laid}
 use Rattle.edit_merge.specs.declared.Next.{Next}
 use Rattle.edit_merge.specs.declared.MergeCursor.{MergeCursor}
-use Rattle.edit_merge.specs.Merge.{from, together, comes_first, Head}
+use Rattle.edit_merge.specs.Merge.{from, together, comes_first, Heads}
 use Rattle.clone_items.specs.declared.Copying.{Copying}
 use Rattle.clone_items.specs.Copies.{clone_item, copied, clones}
 use Rattle.clone_items.specs.Raw.{InFiles}
@@ -66,12 +66,10 @@ module _ (c : Copying) (source : List ℕ) where
       pub none : copy ≡ None → comes_first (clones c (from source k)) (from segment j) ≡ false
 
     -- the first of them and what is left behind it, or that none is left
-    pub record IsNext (j₀ k₀ : ℕ) (next : Next) : Type 0 where
-      pub head : Head next.some (fields next.item) (news j₀ k₀) (news next.j next.k)
-      pub none : next.some ≡ false → (length segment / 70 ≤ j₀) × (length source / 70 ≤ k₀)
-      pub on : next.some ≡ true → j₀ + k₀ < next.j + next.k
-      pub j : next.j ≤ length segment / 70
-      pub settled : Settled next.k
+    pub record IsNext (j k : ℕ) (next : Option Next) : Type 0 where
+      pub heads : Heads news j k next
+      pub none : next ≡ None → (length segment / 70 ≤ j) × (length source / 70 ≤ k)
+      pub there : (x : Next) → next ≡ Some x → (j + k < x.j + x.k) × (x.j ≤ length segment / 70) × Settled x.k
 
     module _ (was : List ℕ) where
       -- the edits that are left

@@ -117,20 +117,15 @@ fn leading_copy(c: Copying, source: &[u8], segment: &[u8], j: usize, k: usize) -
 }
 
 // The next new item: the next copy or the segment's next item, whichever has the lower key.
-fn next_new(c: Copying, source: &[u8], segment: &[u8], j: usize, k: usize) -> Next
+fn next_new(c: Copying, source: &[u8], segment: &[u8], j: usize, k: usize) -> Option<Next>
     requires { Copyables c (items source.now) × (pairs rises (clones c (items source.now)) ≡ true) × (j ≤ length segment.now / 70) × Settled c source.now k }
     ensures { IsNext c source.now segment.now j k result }
 {
     if let Some(item) = leading_copy(c, source, segment, j, k) {
         let next = next_copied(c, source, k + 1);
-        return Next {
-            some: true,
-            item,
-            j,
-            k: next,
-        };
+        return Some(Next { item, j, k: next });
     }
-    edit_merge::segment_next(segment, c.number, j, k)
+    edit_merge::segment_next(segment, j, k)
 }
 
 // The next edit: a delete of an old key that no new item has, or a put of the next new item.
@@ -146,8 +141,7 @@ fn step(
     ensures { Stepped c source.now segment.now was.now at out.old result out.new }
 {
     let next = next_new(c, source, segment, at.j, at.k);
-    let m = edit_merge::put_next(was, at.i, next.some, next.item, c.number, out, at.n);
-    edit_merge::cursor_after(at, next, m)
+    edit_merge::put_next(was, at, next, c.number, out)
 }
 
 // The edits that turn a part of a file's list into a segment with the copies of a source among it: by rising keys, a put

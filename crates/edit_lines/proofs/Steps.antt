@@ -1,15 +1,12 @@
 -- The steps of the merge, from what its calls ensure. Assumes nothing.
 use mathlib.Core.Path.{◌≡◌, refl}
-use mathlib.Core.Bool.{Bool, true, false, cond}
 use mathlib.Core.List.{List, [], ◌∷◌, flat_map}
 use Prim.Native.Nat.{ℕ, ◌+◌, ◌/◌, ◌<◌, ◌≤◌}
 use Rattle.std.specs.Prelude.{Option, None}
 use Rattle.std.proofs.Common.{inl, inr}
 use native.Mathlib.Omega.{arith}
 use lib.ListN.{length}
-use Rattle.item.specs.Items.{fields}
-use Rattle.cut_def.specs.Pieces.{items_of}
-use Rattle.cut_def.specs.Edits.{Edit, put, edits}
+use Rattle.cut_def.specs.Edits.{Edit, edits}
 use Rattle.plan_def.specs.Outputs.{edit_bytes}
 use Rattle.plan_lines.specs.Lines.{Laid}
 use Rattle.plan_lines.proofs.Laws.{Going, going-turn, going_done}

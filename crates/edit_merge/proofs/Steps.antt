@@ -1,6 +1,6 @@
 -- The steps of a merge, from what its calls ensure. Assumes nothing.
 use mathlib.Core.Path.{◌≡◌, refl, ap, ◌∙◌, sym}
-use mathlib.Core.Bool.{Bool, true, false, cond, ◌||◌, not, false≢true}
+use mathlib.Core.Bool.{true, false, cond, false≢true}
 use mathlib.Core.List.{List, [], ◌∷◌, flat_map}
 use Prim.Native.Nat.{ℕ, zero, suc, ◌+◌, ◌*◌, ◌/◌, ◌<◌, ◌≤◌}
 use Rattle.std.specs.Prelude.{Option, Some, None}
@@ -24,7 +24,7 @@ use Rattle.cut_def.specs.Edits.{Edit, put, delete, edits}
 use Rattle.cut_def.proofs.Cases.{edits-gone}
 use Rattle.plan_def.specs.Outputs.{edit_bytes}
 use Rattle.plan_lines.specs.Lines.{Laid}
-use Rattle.plan_lines.proofs.Laws.{Going, going-turn, going_done}
+use Rattle.plan_lines.proofs.Laws.{Going, going_done}
 use Rattle.edit_merge.specs.declared.Next.{Next}
 use Rattle.edit_merge.specs.declared.MergeCursor.{MergeCursor}
 use Rattle.edit_merge.specs.Merge.{gone, behind, from, Heads, GoesOn, Merging, FromSegment}

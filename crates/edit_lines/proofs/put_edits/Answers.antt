@@ -1,5 +1,4 @@
 use Rattle.edit_lines.proofs.Steps.{edits-turn, edits-end}
-use Rattle.edit_lines.specs.Merge.{news}
 use Rattle.plan_lines.proofs.Laws.{going_first}
 use Rattle.plan_def.specs.Outputs.{edit_bytes}
 use Rattle.item.proofs.Laws.{items-length}

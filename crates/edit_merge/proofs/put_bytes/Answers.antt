@@ -1,4 +1,4 @@
-use Rattle.std.proofs.Common.{◌≡◌, List, ℕ, ap, ◌∙◌, sym}
+use Rattle.std.proofs.Common.{ap, ◌∙◌, sym}
 use Rattle.endian.specs.Le.{put as put_over}
 use Rattle.plan_def.specs.Outputs.{edit_bytes}
 use Rattle.edit_merge.specs.Merge.{edit_of}

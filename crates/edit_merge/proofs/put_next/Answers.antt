@@ -1,4 +1,4 @@
-use Rattle.std.proofs.Common.{◌≡◌, ℕ, ◌<◌, ◌/◌, true, Some, length, ◌∙◌, sym}
+use Rattle.std.proofs.Common.{◌≡◌, ◌<◌, ◌/◌, true, Some, length, ◌∙◌, sym}
 use Rattle.edit_merge.specs.declared.Next.{Next}
 use Rattle.edit_merge.specs.Merge.{gone, from}
 use native.Mathlib.Omega.{arith}
@@ -15,15 +15,17 @@ returns-in-Some c = let a = c.args in
 pub item_at-old-requires : goal.item_at-old-requires
 item_at-old-requires c = let a = c.args in
     let l : a.at.i < length a.was.now / 70 =
-    elim c.in_default.branch
-    [ in_default-via-in-Some+else-not-is_gone w ↦ gone-some a.was.now a.at.i (Some w.in-Some.new.item.key) (sym w.if-not-is_gone.false ∙ w.is_gone.ensures)
-    | in_default-via-in_default w ↦ c.requires.2 w.in_default.is ] in
+    elim c.in_default.branch [
+      | in_default-via-in-Some+else-not-is_gone w ↦ gone-some a.was.now a.at.i (Some w.in-Some.new.item.key) (sym w.if-not-is_gone.false ∙ w.is_gone.ensures)
+      | in_default-via-in_default w ↦ c.requires.2 w.in_default.is
+    ] in
     omega arith
 
 pub returns-in_default : goal.returns-in_default
 returns-in_default c = let a = c.args in
     let l : (a.at.i < length a.was.now / 70) × ((x : Next) → a.next ≡ Some x → gone (Some x.item.key) (from a.was.now a.at.i) ≡ true) =
-    elim c.in_default.branch
-    [ in_default-via-in-Some+else-not-is_gone w ↦ (gone-some a.was.now a.at.i (Some w.in-Some.new.item.key) (sym w.if-not-is_gone.false ∙ w.is_gone.ensures), λ x e. next_gone a.was.now a.at.i _ _ x w.in-Some.is e (sym w.is_gone.ensures ∙ w.if-not-is_gone.false))
-    | in_default-via-in_default w ↦ (c.requires.2 w.in_default.is, λ x e. absurd (w.in_default.not-Some x e)) ] in
+    elim c.in_default.branch [
+      | in_default-via-in-Some+else-not-is_gone w ↦ (gone-some a.was.now a.at.i (Some w.in-Some.new.item.key) (sym w.if-not-is_gone.false ∙ w.is_gone.ensures), λ x e. next_gone a.was.now a.at.i _ _ x w.in-Some.is e (sym w.is_gone.ensures ∙ w.if-not-is_gone.false))
+      | in_default-via-in_default w ↦ (c.requires.2 w.in_default.is, λ x e. absurd (w.in_default.not-Some x e))
+    ] in
     merging_gone a.file a.was.now a.at a.next a.out.now _ _ (fields c.item_at-old.result) l.0 (item-decode _ _ c.item_at-old.ensures) l.1 c.put_edit-in_default.ensures
