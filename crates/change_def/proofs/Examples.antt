@@ -21,7 +21,7 @@ use Rattle.change_def.specs.Rounding.{round_down, round_up}
 use Rattle.change_def.specs.Preallocs.{Stretch, piece_limit, pieces_from, prealloc_pieces}
 use Rattle.change_def.specs.Rewrites.{Ground, holder_of, each_in_place}
 use Rattle.change_def.specs.Sweep.{gaps_from, filled_of}
-use Rattle.change_def.specs.declared.Rewrite.{Rewrite}
+use Rattle.std.specs.Prelude.{None}
 use Rattle.change_def.specs.Changes.{Change, new_items, writes_anew, pieces_written, pieces_joined, drops, change_refusal, pieces_after, changed}
 
 -- ---- rounding and pieces
@@ -258,13 +258,10 @@ filled : (lo hi : ℕ) → List ℕ
 filled lo hi =
     told
     (filled_of
-    (record { lo = lo; hi = hi; has_front = false; front = none; has_back = false; back = none })
+    (record { lo = lo; hi = hi; front = None; back = None })
     (record { from = 1024; to = 20480; size = 9000 })
     (map (λ (h : InLeaf). h.item) (item 1 4096 0 4096 0 ∷ item 1 12288 8192 4096 0 ∷ [])))
   where
-    none : Rewrite
-    none = record { sector = 0; first = 0; end = 0 }
-
     told : Change → List ℕ
     told c = c.size ∷ flat_map (λ (s : Stretch). s.start ∷ s.length ∷ []) c.holes
 

@@ -1,6 +1,5 @@
 -- For the code only: its structs as a change.
-use Rattle.std.specs.Prelude.{[], ◌++◌, ℕ}
-use Rattle.records.specs.Select.{only}
+use Rattle.std.specs.Prelude.{[], ◌++◌, ℕ, option_to_list}
 use Rattle.change_def.specs.declared.RangeChange.{RangeChange}
 use Rattle.change_def.specs.Changes.{Change}
 
@@ -10,7 +9,7 @@ change_of c size =
     record {
       lo = c.lo;
       hi = c.hi;
-      rewrites = only c.has_front c.front ++ only c.has_back c.back;
+      rewrites = option_to_list c.front ++ option_to_list c.back;
       holes = [];
       size = size;
     }

@@ -1,7 +1,7 @@
 -- For the code only: the holes of a stretch of a file by one sweep along its items, which rise, with a range [lo, hi) taken out.
 use mathlib.Core.List.{List, [], ◌∷◌, ◌++◌, flat_map}
-use Rattle.std.specs.Prelude.{ℕ, ◌+◌, ◌-◌, min, max, ltb}
-use Rattle.records.specs.Select.{only, keep}
+use Rattle.std.specs.Prelude.{ℕ, ◌+◌, ◌-◌, min, max, ltb, option_to_list}
+use Rattle.records.specs.Select.{keep}
 use Rattle.item.specs.Items.{Fields, end}
 use Rattle.change_def.specs.Preallocs.{Stretch}
 use Rattle.change_def.specs.declared.RangeChange.{RangeChange}
@@ -40,7 +40,7 @@ filled_of c w fs =
     record {
       lo = c.lo;
       hi = c.hi;
-      rewrites = only c.has_front c.front ++ only c.has_back c.back;
+      rewrites = option_to_list c.front ++ option_to_list c.back;
       holes = holes_in c.lo c.hi w.from w.to fs;
       size = w.size;
     }

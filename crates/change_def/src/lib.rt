@@ -13,15 +13,13 @@ pub struct Rewrite {
     pub end: u64,
 }
 
-// A range to cut, and the sectors rewritten in it: one at the front, one at the back, each if it is said to be there.
+// A range to cut, and the sectors rewritten in it, at most one at the front and one at the back.
 #[derive(Clone, Copy)]
 pub struct RangeChange {
     pub lo: u64,
     pub hi: u64,
-    pub has_front: bool,
-    pub front: Rewrite,
-    pub has_back: bool,
-    pub back: Rewrite,
+    pub front: Option<Rewrite>,
+    pub back: Option<Rewrite>,
 }
 
 // The stretch of the file whose holes are filled, [from, to), and the file's new size.

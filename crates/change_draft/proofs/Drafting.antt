@@ -1,6 +1,6 @@
 -- The first half of a plan: what it says of the whole, its numbers, and what its calls ask for. Assumes nothing.
 use mathlib.Core.Path.{◌≡◌, refl, ap, ap₂, ◌∙◌, sym}
-use mathlib.Core.Bool.{Bool, true, false, cond, ◌&&◌, not}
+use mathlib.Core.Bool.{Bool, true, false, cond, ◌&&◌}
 use mathlib.Core.List.{List, [], ◌∷◌, ◌++◌, map, flat_map}
 use Prim.Native.Nat.{ℕ, zero, suc, ◌+◌, ◌-◌, ◌<◌, ◌≤◌, ◌^◌}
 use native.Mathlib.Omega.{arith}
@@ -8,6 +8,8 @@ use native.Mathlib.Nat.{zero-add}
 use lib.Dec.{eqb, leb}
 use lib.ListN.{length, replicate, length-append, length-replicate, replicate-append-replicate}
 use borrow.Author.Tests.{le-leb, eqb-true, eqb-false, ne_eqb}
+use Rattle.std.specs.Prelude.{Option, Some, None, option_to_list}
+use Rattle.std.specs.Option.{ForSome}
 use Rattle.records.specs.Records.{chunks, records}
 use Rattle.records.specs.Stages.{first, first_of, every, pairs, stage}
 use Rattle.records.proofs.Tests.{both_left, both_right, every_map, every_both, first_of_zero, whenever-zero}
@@ -28,6 +30,7 @@ use Rattle.plan_def.specs.Outputs.{Rooms, Outs}
 use Rattle.edit_lines.specs.Pieced.{piece_items}
 use Rattle.change_def.specs.declared.RangeChange.{RangeChange}
 use Rattle.change_def.specs.declared.Fill.{Fill}
+use Rattle.change_def.specs.declared.Rewrite.{Rewrite}
 use Rattle.change_def.specs.Rewrites.{Ground, rewrite_refusal}
 use Rattle.change_def.specs.Preallocs.{Stretch, piece_limit, prealloc_pieces, sum_of}
 use Rattle.change_def.specs.Changes.{Change, before as items_before, change_refusal, sectors_wanted, pieces_wanted, wanted, plan_of, changed}
@@ -45,8 +48,9 @@ use Rattle.change_holes.proofs.Pieces.{pieces-few}
 use Rattle.change_rewrites.specs.Raw.{lent_ground}
 use Rattle.change_segment.specs.declared.Parts.{Parts}
 use Rattle.change_segment.specs.Raw.{Parting}
-use Rattle.change_segment.specs.Sides.{front_new, back_new, sides, wanted_at}
-use Rattle.change_segment.proofs.Sides.{wanted-sides, sides-few}
+use Rattle.change_segment.specs.Sides.{front_new, back_new, sides, wanted_at, one_if, anew_count, places_at}
+use Rattle.change_segment.proofs.Sides.{ways, wanted-sides, sides-few, sides-count}
+use Rattle.change_segment.proofs.Puts.{anew_of}
 use Rattle.change_lay.specs.declared.Counts.{Counts}
 use Rattle.change_lay.proofs.Laying.{ready_now}
 use Rattle.change_lay.specs.Laid.{Started, Pieced, plan_at, edits_at, PlanLaid}
@@ -78,17 +82,17 @@ refuse_first (suc x) a b p z = refl
 
 -- ---- the two sectors
 
-pub sides-count : (a b : Bool) {A : Type 0} (u w : A) → cond a 1 0 + cond b 1 0 ≡ length (sides a b u w)
-sides-count true true u w = refl
-sides-count true false u w = refl
-sides-count false true u w = refl
-sides-count false false u w = refl
+rewrites-few : (c : RangeChange) → length (option_to_list c.front ++ option_to_list c.back) ≤ 2
+rewrites-few c = ways (λ a b. length (option_to_list a ++ option_to_list b) ≤ 2) (λ x y. omega arith) (λ x. omega arith) (λ y. omega arith) (omega arith) c.front c.back
 
-sides-ones : (a b : Bool) → sides {A = ℕ} a b 1 1 ≡ replicate (cond a 1 0 + cond b 1 0) 1
-sides-ones true true = refl
-sides-ones true false = refl
-sides-ones false true = refl
-sides-ones false false = refl
+pub anew-most : (c : RangeChange) (p : Parts) → anew_count c p ≤ 2
+anew-most c p = ways (λ (a b : Option Rewrite). one_if a + one_if b ≤ 2) (λ x y. omega arith) (λ x. omega arith) (λ y. omega arith) (omega arith) (front_new c p) (back_new c p)
+
+sides-ones : {A : Type 0} (a b : Option A) → sides {B = ℕ} a b (λ (x : A). 1) (λ (x : A). 1) ≡ replicate (one_if a + one_if b) 1
+sides-ones (Some x) (Some y) = refl
+sides-ones (Some x) None = refl
+sides-ones None (Some y) = refl
+sides-ones None None = refl
 
 module _ (v : Volume) (f : File) (c : RangeChange) (w : Fill) (p : Parts) (list shared table : List ℕ) where
   abbrev g : Ground
@@ -102,7 +106,7 @@ module _ (v : Volume) (f : File) (c : RangeChange) (w : Fill) (p : Parts) (list 
 
   -- how many sectors take new extents
   abbrev anew : ℕ
-  anew = cond (front_new c p) 1 0 + cond (back_new c p) 1 0
+  anew = anew_count c p
 
   -- nothing refuses the change: the generation can go up, and the sectors be written
   pub passed : change_refusal g d ≡ 0 → (v.generation ≡ 2 ^ 64 - 1 → ⊥) × (stage (rewrite_refusal g) base.rewrites ≡ 0)
@@ -156,17 +160,20 @@ module _ (v : Volume) (f : File) (c : RangeChange) (w : Fill) (p : Parts) (list 
 
   module _ (part : Parting (in_leaves (items list) shared) c p) where
     pub sectors_many : anew ≡ length (sectors_wanted g d piece_limit)
-    sectors_many = sides-count (front_new c p) (back_new c p) (wanted_at g c.front) (wanted_at g c.back) ∙ ap length (sym (sectors_now g c w (items list) p part))
+    sectors_many = sides-count (front_new c p) (back_new c p) (wanted_at g) (wanted_at g) ∙ ap length (sym (sectors_now g c w (items list) p part))
 
     -- each place counts as 1
     abbrev ones : List ℕ
-    ones = sides (front_new c p) (back_new c p) 1 1
+    ones = places_at c p 1 1
+
+    ones-count : anew ≡ length ones
+    ones-count = sides-count (front_new c p) (back_new c p) (λ (r : Rewrite). 1) (λ (r : Rewrite). 1)
 
     abbrev others : List ℕ
     others = replicate (length (pieces_wanted g d piece_limit)) 1
 
     ones-many : length ones ≡ length (sectors_wanted g d piece_limit)
-    ones-many = sym (sides-count (front_new c p) (back_new c p) 1 1) ∙ sectors_many
+    ones-many = sym ones-count ∙ sectors_many
 
     ones_all : ones ++ others ≡ replicate (length (wanted g d piece_limit)) 1
     ones_all =
@@ -192,7 +199,7 @@ module _ (v : Volume) (f : File) (c : RangeChange) (w : Fill) (p : Parts) (list 
         -- its numbers are those of the plan
         numbers_are : numbers_of n anew s w.size ≡ numbers (plan_of g d piece_limit (replicate (length (wanted g d piece_limit)) 1))
         numbers_are =
-            (λ i. numbers_of (pn i) (sides-count (front_new c p) (back_new c p) {A = ℕ} 1 1 i) (record { bytes = bytes_are i; pieces = pieces_are i }) w.size)
+            (λ i. numbers_of (pn i) (ones-count i) (record { bytes = bytes_are i; pieces = pieces_are i }) w.size)
             ∙ sym (numbers_now f.size g d fair ones others ones-many (length-replicate (length (pieces_wanted g d piece_limit)) 1) (ones-some (length (pieces_wanted g d piece_limit))))
             ∙ ap (λ (l : List ℕ). numbers (plan_of g d piece_limit l)) ones_all
 
@@ -213,9 +220,9 @@ module _ (v : Volume) (f : File) (c : RangeChange) (w : Fill) (p : Parts) (list 
             let e1 : n.edits.edits ≡ (numbers (plan_of g base piece_limit ones)).edits = ap (λ (n : Counts). n.edits.edits) pn in
             let e2 : n.edits.bytes ≡ (numbers (plan_of g base piece_limit ones)).bytes = ap (λ (n : Counts). n.edits.bytes) pn in
             let h : length (items_before g base) ≡ length (items list) = ap length (leaves-items (items list) shared shares) in
-            let r : length base.rewrites ≤ 2 = sides-few c.has_front c.has_back c.front c.back in
-            let x : length (wanted g base piece_limit) ≤ 2 = rw (wanted-sides g c f.size p part piece_limit) (sides-few (front_new c p) (back_new c p) (wanted_at g c.front) (wanted_at g c.back)) in
-            let a : anew ≤ 2 = rw (sides-count (front_new c p) (back_new c p) {A = ℕ} 1 1) (sides-few (front_new c p) (back_new c p) 1 1) in
+            let r : length base.rewrites ≤ 2 = rewrites-few c in
+            let x : length (wanted g base piece_limit) ≤ 2 = rw (wanted-sides g c f.size p part piece_limit) (sides-few (front_new c p) (back_new c p) (wanted_at g) (wanted_at g)) in
+            let a : anew ≤ 2 = anew-most c p in
             let b = bytes_fit_now f.size g d fair ones others ones-many (length-replicate (length (pieces_wanted g d piece_limit)) 1) (ones-some (length (pieces_wanted g d piece_limit))) in
             let fit = holes_fit in
             let ed = most.edits in
@@ -243,27 +250,9 @@ module _ (v : Volume) (f : File) (c : RangeChange) (p : Parts) (list shared tabl
       λ i. record { refs = record { shares = e2 i; unrefs = e3 i; releases = e4 i }; edits = record { edits = e1 i; bytes = e6 i }; writes = e5 i }
 
   -- a sector that takes a new extent ends within 64 bits
-  pub sides_fit : Started v f c p list shared table → (front_new c p ≡ true → c.front.sector + v.sector < 2 ^ 64) × (back_new c p ≡ true → c.back.sector + v.sector < 2 ^ 64)
+  pub sides_fit : Started v f c p list shared table → ForSome (front_new c p) (λ (r : Rewrite). r.sector + v.sector < 2 ^ 64) × ForSome (back_new c p) (λ (r : Rewrite). r.sector + v.sector < 2 ^ 64)
   sides_fit st =
       let r = ready_now v f c p list shared table st in (
-        (λ e. let i = r.«new-front» (both_left c.has_front (not p.front.found) e) in omega (arith, i.high, i.limit)),
-        (λ e. let i = r.«new-back» (both_left c.has_back (not p.back.found) e) in omega (arith, i.high, i.limit)),
+        (λ x e. let i = r.«new-front» x (anew_of c.front p.front x e) in omega (arith, i.high, i.limit)),
+        (λ x e. let i = r.«new-back» x (anew_of c.back p.back x e) in omega (arith, i.high, i.limit)),
       )
-
-pub sides-told :
-    (v : Volume) (c : RangeChange) (w : Fill) (p : Parts) (a b : Bool) (x y : Bounds)
-    → a ≡ front_new c p → b ≡ back_new c p → x ≡ side_of a v.sector c.front → y ≡ side_of b v.sector c.back
-    → ◌≡◌ {A = NewExtents} (record { one = x; two = y; lo = c.lo; hi = c.hi; from = w.from; to = w.to }) (extents_of v c w p)
-sides-told v c w p a b x y pa pb px py = rw (px, py, pa, pb) refl
-
--- at most two sectors
-pub sides-most : (n : ℕ) (a b : Bool) → n ≡ cond a 1 0 + cond b 1 0 → n ≤ 2
-sides-most n a b e = rw e (omega (arith, sides-count a b {A = ℕ} 1 1, sides-few {A = ℕ} a b 1 1))
-
--- one more, and one more
-pub two-counted : (a b x y : Bool) (m n : ℕ) → m ≡ 0 + cond a 1 0 → n ≡ m + cond b 1 0 → a ≡ x → b ≡ y → n ≡ cond x 1 0 + cond y 1 0
-two-counted a b x y m n pm pn pa pb = rw (pn, pm, pa, pb, zero-add) refl
-
-pub one-few : (a : Bool) (m : ℕ) → m ≡ 0 + cond a 1 0 → m ≤ 1
-one-few true m e = omega (arith, e)
-one-few false m e = omega (arith, e)

@@ -8,7 +8,8 @@ use native.Mathlib.Omega.{arith}
 use lib.Dec.{eqb, ltb}
 use lib.ListN.{length, length-append, length-map}
 use borrow.Author.Tests.{ltb-false}
-use Rattle.records.specs.Select.{only, keep}
+use Rattle.std.specs.Prelude.{Option, Some, None, option_to_list}
+use Rattle.records.specs.Select.{keep}
 use Rattle.records.specs.Stages.{every, pairs}
 use Rattle.item.specs.Items.{Fields, ranged}
 use Rattle.lists.specs.Lists.{rises}
@@ -66,8 +67,8 @@ some-pieces (s ∷ ss) = go (ltb 0 s.length) refl (some-pieces ss)
 
 -- ---- a sector is one piece
 
-side_pieces : (v : Volume) → sector_sound v.sector ≡ true → (b : Bool) (g : Ground) → g.sector ≡ v.sector → (r : Rewrite) → prealloc_pieces piece_limit (stretch_of (side_of b v.sector r)) ≡ map stretch_for (only b (wanted_at g r))
-side_pieces v ok true g e r =
+side_pieces : (v : Volume) → sector_sound v.sector ≡ true → (g : Ground) → g.sector ≡ v.sector → (o : Option Rewrite) → prealloc_pieces piece_limit (stretch_of (side_of v.sector o)) ≡ map stretch_for (map (wanted_at g) (option_to_list o))
+side_pieces v ok g e (Some r) =
     let few = sector-range v.sector ok in
     let n : r.sector + v.sector - r.sector ≡ v.sector = omega arith in
     let one : prealloc_pieces piece_limit (record { start = r.sector; length = v.sector }) ≡ record { start = r.sector; length = v.sector } ∷ [] = single (record { start = r.sector; length = v.sector }) few.0 (omega (arith, few.1)) in
@@ -77,7 +78,7 @@ side_pieces v ok true g e r =
     single s some most =
         let m : Prim.Native.Nat.min piece_limit s.length ≡ s.length = omega arith in
         pieces_cons piece_limit (omega arith) s some ∙ ap₂ (λ (a : Stretch) (l : List Stretch). a ∷ l) (rw m refl) (pieces_none _ (omega arith))
-side_pieces v ok false g e r = pieces_none _ (omega arith)
+side_pieces v ok g e None = pieces_none _ (omega arith)
 
 -- ---- the new extents
 
@@ -99,20 +100,18 @@ module _ (g : Ground) (c : RangeChange) (w : Fill) (fs : List Fields) where
   holes_sum = sum_some swept
 
   module _ (p : Parts) (part : Parting g.in_leaves c p) where
-    pub sectors_now : sectors_wanted g filled piece_limit ≡ sides (front_new c p) (back_new c p) (wanted_at g c.front) (wanted_at g c.back)
+    pub sectors_now : sectors_wanted g filled piece_limit ≡ sides (front_new c p) (back_new c p) (wanted_at g) (wanted_at g)
     sectors_now = sym (bare_wanted 0 g filled piece_limit) ∙ wanted-sides g c 0 p part piece_limit
 
     -- all of them are those of the walk
     pub wishes_now : (v : Volume) → sector_sound v.sector ≡ true → g.sector ≡ v.sector → wishes (extents_of v c w p) fs ≡ map stretch_for (wanted g filled piece_limit)
     unfolding flat_map
     wishes_now v ok e =
-        let a : Bool = front_new c p in
-        let b : Bool = back_new c p in
-        let x : Wanted = wanted_at g c.front in
-        let y : Wanted = wanted_at g c.back in
-        ap₂ (λ (l m : List Stretch). l ++ (m ++ flat_map (prealloc_pieces piece_limit) swept)) (side_pieces v ok a g e c.front) (side_pieces v ok b g e c.back)
-        ∙ sym (append_assoc (map stretch_for (only a x)) (map stretch_for (only b y)) (flat_map (prealloc_pieces piece_limit) swept))
-        ∙ ap₂ (λ (l m : List Stretch). l ++ m) (sym (map-append stretch_for (only a x) (only b y)) ∙ ap (map stretch_for) (sym sectors_now)) (sym pieces_swept)
+        let x : List Wanted = map (wanted_at g) (option_to_list (front_new c p)) in
+        let y : List Wanted = map (wanted_at g) (option_to_list (back_new c p)) in
+        ap₂ (λ (l m : List Stretch). l ++ (m ++ flat_map (prealloc_pieces piece_limit) swept)) (side_pieces v ok g e (front_new c p)) (side_pieces v ok g e (back_new c p))
+        ∙ sym (append_assoc (map stretch_for x) (map stretch_for y) (flat_map (prealloc_pieces piece_limit) swept))
+        ∙ ap₂ (λ (l m : List Stretch). l ++ m) (sym (map-append stretch_for x y) ∙ ap (map stretch_for) (sym sectors_now)) (sym pieces_swept)
         ∙ sym (map-append stretch_for (sectors_wanted g filled piece_limit) (pieces_wanted g filled piece_limit))
 
 -- ---- the plan

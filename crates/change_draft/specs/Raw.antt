@@ -1,5 +1,5 @@
 -- For the code only: what the structs and the enum of this crate say, in the terms of the definitions.
-use Rattle.std.specs.Prelude.{Bool, cond, List, ◌≡◌, ℕ, ◌+◌, ◌≤◌, ltb, length}
+use Rattle.std.specs.Prelude.{Option, Some, None, List, ◌≡◌, ℕ, ◌+◌, ◌≤◌, ltb, length}
 use Rattle.item.specs.Items.{Fields, items}
 use Rattle.request.specs.declared.Volume.{Volume}
 use Rattle.request.specs.declared.File.{File}
@@ -29,15 +29,16 @@ draft_said fs (draft.Plan n) = plan (record { numbers = n.numbers; extents = wis
 draft_said fs (draft.Refused n) = refused n
 
 -- the stretch of a sector that takes a new extent; else an empty one
-abbrev pub side_of : Bool → (sector : ℕ) → Rewrite → Bounds
-side_of anew sector r = record { start = r.sector; stop = cond anew (r.sector + sector) r.sector }
+abbrev pub side_of : (sector : ℕ) → Option Rewrite → Bounds
+side_of sector None = record { start = 0; stop = 0 }
+side_of sector (Some r) = record { start = r.sector; stop = r.sector + sector }
 
 -- the new extents of a change
 abbrev pub extents_of : Volume → RangeChange → Fill → Parts → NewExtents
 extents_of v c w p =
     record {
-      one = side_of (front_new c p) v.sector c.front;
-      two = side_of (back_new c p) v.sector c.back;
+      one = side_of v.sector (front_new c p);
+      two = side_of v.sector (back_new c p);
       lo = c.lo;
       hi = c.hi;
       from = w.from;

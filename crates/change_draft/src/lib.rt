@@ -1,7 +1,8 @@
 // The first half of `change_range`: what refuses a change, or what its plan needs, with no place taken.
 #![tactic(auto)]
 
-ghost use Rattle.std.specs.Prelude.{true, cond, ◌≡◌, ◌+◌, ◌<◌, ◌^◌};
+ghost use Rattle.std.specs.Prelude.{◌≡◌, ◌+◌, ◌<◌, ◌^◌};
+ghost use Rattle.std.specs.Option.{ForSome};
 ghost use Rattle.records.specs.Stages.{stage};
 ghost use Rattle.item.specs.Items.{items};
 ghost use Rattle.ref_def.specs.Drops.{in_leaves};
@@ -12,7 +13,7 @@ ghost use Rattle.change_def.specs.Raw.{change_of};
 ghost use Rattle.change_def.specs.Sweep.{filled_of};
 ghost use Rattle.change_rewrites.specs.Raw.{lent_ground};
 ghost use Rattle.change_segment.specs.Raw.{Parting};
-ghost use Rattle.change_segment.specs.Sides.{front_new, back_new};
+ghost use Rattle.change_segment.specs.Sides.{front_new, back_new, anew_count};
 ghost use Rattle.change_lay.specs.Laid.{Started, plan_at};
 ghost use Rattle.change_draft.specs.Raw.{draft_said, side_of, extents_of, counts_of, numbers_of, Asked};
 
@@ -76,40 +77,35 @@ fn count_plan(
 
 // How many sectors of a change take new extents.
 pub fn sectors_anew(c: RangeChange, p: Parts) -> usize
-    ensures { result ≡ cond (front_new c p) 1 0 + cond (back_new c p) 1 0 }
+    ensures { result ≡ anew_count c p }
 {
-    records::counted(
-        records::counted(0, change_segment::front_new(c, p)),
-        change_segment::back_new(c, p),
-    )
+    let front = change_segment::front_new(c, p).is_some();
+    let back = change_segment::back_new(c, p).is_some();
+    usize::from(front) + usize::from(back)
 }
 
-// The stretch of a sector that takes a new extent, if it does.
-fn side_of(anew: bool, sector: u64, r: Rewrite) -> Bounds
-    requires { anew ≡ true → r.sector + sector < 2 ^ 64 }
-    ensures { result ≡ side_of anew sector r }
+// The stretch of a sector that takes a new extent; an empty one if there is none.
+fn side_of(sector: u64, r: Option<Rewrite>) -> Bounds
+    requires { ForSome r (λ r. r.sector + sector < 2 ^ 64) }
+    ensures { result ≡ side_of sector r }
 {
-    if anew {
-        Bounds {
+    match r {
+        Some(r) => Bounds {
             start: r.sector,
             stop: r.sector + sector,
-        }
-    } else {
-        Bounds {
-            start: r.sector,
-            stop: r.sector,
-        }
+        },
+        None => Bounds { start: 0, stop: 0 },
     }
 }
 
 // What a change wants new extents for.
 fn extents_of(v: Volume, c: RangeChange, w: Fill, p: Parts) -> NewExtents
-    requires { (front_new c p ≡ true → c.front.sector + v.sector < 2 ^ 64) × (back_new c p ≡ true → c.back.sector + v.sector < 2 ^ 64) }
+    requires { ForSome (front_new c p) (λ r. r.sector + v.sector < 2 ^ 64) × ForSome (back_new c p) (λ r. r.sector + v.sector < 2 ^ 64) }
     ensures { result ≡ extents_of v c w p }
 {
     NewExtents {
-        one: side_of(change_segment::front_new(c, p), v.sector, c.front),
-        two: side_of(change_segment::back_new(c, p), v.sector, c.back),
+        one: side_of(v.sector, change_segment::front_new(c, p)),
+        two: side_of(v.sector, change_segment::back_new(c, p)),
         lo: c.lo,
         hi: c.hi,
         from: w.from,

@@ -31,10 +31,10 @@ use Rattle.change_def.specs.Changes.{pieces_after}
 use Rattle.change_def.specs.Raw.{change_of}
 use Rattle.change_def.specs.Preallocs.{piece_limit}
 use Rattle.change_def.proofs.Preallocs.{limit_whole}
-use Rattle.change_rewrites.specs.Raw.{lent_ground}
+use Rattle.change_rewrites.specs.Raw.{lent_ground, Writable}
 use Rattle.change_segment.specs.declared.Parts.{Parts}
 use Rattle.change_segment.specs.Raw.{Made, Ready}
-use Rattle.change_segment.specs.Sides.{front_new, back_new, sides, joined_pieces, after_pieces, middle, cut_of, shares_of, unrefs_of, bytes_of, writes_of, Writable}
+use Rattle.change_segment.specs.Sides.{places_at, joined_pieces, after_pieces, middle, cut_of, shares_of, unrefs_of, bytes_of, writes_of}
 use Rattle.change_segment.proofs.Sides.{each_sides, writes-sides}
 use Rattle.change_segment.proofs.Planned.{ready, writable, shares-same, unrefs-same, releases-same, after_same}
 use Rattle.change_segment.proofs.Edited.{middle-rises, part-rises, edits-same, bytes_same, bytes_below, after_kept}
@@ -58,7 +58,7 @@ module _ (v : Volume) (f : File) (c : RangeChange) (p : Parts) (list shared tabl
     refs-laid a b d x y z x' y' z' ls lu lr =
         let o : s.from ≤ s.to = m.good.order in
         let segment : List Fields = segment_of s seg in
-        let ps : List ℕ = sides (front_new c p) (back_new c p) 0 0 in
+        let ps : List ℕ = places_at c p 0 0 in
         record {
           shares =
               laid_same ref_numbers 2 0 _ _ x a x'
@@ -74,11 +74,8 @@ module _ (v : Volume) (f : File) (c : RangeChange) (p : Parts) (list shared tabl
   -- ---- edits and bytes
 
   module _ (x y : ℕ) (s : Segment) (seg : List ℕ) (m : Made (after_pieces v f c p x y (items list)) c.lo c.hi 6 list s seg) where
-    abbrev places : List ℕ
-    places = sides (front_new c p) (back_new c p) x y
-
     abbrev after : List Piece
-    after = pieces_after (lent_ground v f list shared table) (change_of c f.size) piece_limit places
+    after = pieces_after (lent_ground v f list shared table) (change_of c f.size) piece_limit (places_at c p x y)
 
     same : pieces list s seg ≡ after
     same = m.same ∙ sym (after_same v f c p (items list) shared (rows table) st.part st.shares piece_limit x y)
@@ -87,7 +84,7 @@ module _ (v : Volume) (f : File) (c : RangeChange) (p : Parts) (list shared tabl
     before_same = rw (leaves-items (items list) shared st.shares) at st.fair.sound.kept
 
     kept_now : Kept f.number (items_of after) × (every ranged (items_of after) ≡ true)
-    kept_now = after_kept (lent_ground v f list shared table) (change_of c f.size) st.fair piece_limit (omega arith) (limit_whole v.sector st.fair.sound.sector) places
+    kept_now = after_kept (lent_ground v f list shared table) (change_of c f.size) st.fair piece_limit (omega arith) (limit_whole v.sector st.fair.sound.sector) (places_at c p x y)
 
     kept_pieces : Kept f.number (items_of (pieces list s seg))
     kept_pieces = rw same kept_now.0
@@ -136,5 +133,5 @@ module _ (v : Volume) (f : File) (c : RangeChange) (p : Parts) (list shared tabl
         writes = laid_same write_numbers 4 0 _ _ before.writes w after.writes pw lw;
       }
 
-  pub can_write : stage (rewrite_refusal (lent_ground v f list shared table)) (change_of c f.size).rewrites ≡ 0 → Writable c.front p.front × Writable c.back p.back
+  pub can_write : stage (rewrite_refusal (lent_ground v f list shared table)) (change_of c f.size).rewrites ≡ 0 → Writable p.front × Writable p.back
   can_write z = writable v f c p list shared (rows table) st.part st.fair z

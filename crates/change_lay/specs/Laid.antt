@@ -23,7 +23,7 @@ use Rattle.change_def.proofs.Fair.{Fair}
 use Rattle.change_rewrites.specs.Raw.{lent_ground}
 use Rattle.change_segment.specs.declared.Parts.{Parts}
 use Rattle.change_segment.specs.Raw.{Parting}
-use Rattle.change_segment.specs.Sides.{front_new, back_new, sides}
+use Rattle.change_segment.specs.Sides.{places_at}
 use Rattle.change_lay.specs.declared.RefCounts.{RefCounts}
 use Rattle.change_lay.specs.declared.Edited.{Edited}
 use Rattle.change_lay.specs.declared.Counts.{Counts}
@@ -38,11 +38,11 @@ pub record Started (v : Volume) (f : File) (c : RangeChange) (p : Parts) (list s
 
 -- the plan of such a change, x the place of the front sector and y of the back one, where each takes one
 abbrev pub plan_at : Volume → File → RangeChange → Parts → (list shared table : List ℕ) → (x y : ℕ) → Plan
-plan_at v f c p list shared table x y = plan_of (lent_ground v f list shared table) (change_of c f.size) piece_limit (sides (front_new c p) (back_new c p) x y)
+plan_at v f c p list shared table x y = plan_of (lent_ground v f list shared table) (change_of c f.size) piece_limit (places_at c p x y)
 
 -- the file's items of that plan, but for the pieces of holes
 abbrev pub after_at : Volume → File → RangeChange → Parts → (list shared table : List ℕ) → (x y : ℕ) → List Piece
-after_at v f c p list shared table x y = pieces_after (lent_ground v f list shared table) (change_of c f.size) piece_limit (sides (front_new c p) (back_new c p) x y)
+after_at v f c p list shared table x y = pieces_after (lent_ground v f list shared table) (change_of c f.size) piece_limit (places_at c p x y)
 
 -- the edits with the pieces of holes among them, whose adds are these numbers
 abbrev pub edits_at : Volume → File → RangeChange → Parts → (list shared table : List ℕ) → (x y : ℕ) → (pieces : List ℕ) → List Edit

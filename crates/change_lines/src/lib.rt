@@ -1,9 +1,8 @@
 // `change_range` in code: the lines of a change for each output, read off the list and the segment beside it.
 #![tactic(auto)]
 
-ghost use Rattle.std.specs.Prelude.{true, map, ◌≡◌, ◌+◌, ◌-◌, ◌*◌, ◌<◌, ◌≤◌, ◌^◌, length, take, drop};
+ghost use Rattle.std.specs.Prelude.{true, map, option_to_list, ◌≡◌, ◌+◌, ◌-◌, ◌*◌, ◌<◌, ◌≤◌, ◌^◌, length, take, drop};
 ghost use Rattle.records.specs.Lent.{old, new};
-ghost use Rattle.records.specs.Select.{only};
 ghost use Rattle.item.specs.Items.{items};
 ghost use Rattle.table.specs.Rows.{rows, table_kept};
 ghost use Rattle.records.specs.Stages.{pairs};
@@ -14,9 +13,8 @@ ghost use Rattle.cut_def.specs.Edits.{edits};
 ghost use Rattle.cut_segment.specs.Segments.{segment_of, Good, Runs};
 ghost use Rattle.plan_def.specs.Outputs.{edit_bytes, ref_numbers, write_numbers};
 ghost use Rattle.plan_lines.specs.Lines.{Laid};
-ghost use Rattle.change_def.specs.Rewrites.{write_in_place};
-ghost use Rattle.change_rewrites.specs.Raw.{holder_leaf};
-ghost use Rattle.change_segment.specs.Sides.{sides, write_at, Writable, writes_of, middle, cut_of, compared_of, shares_of, unrefs_of, bytes_of};
+ghost use Rattle.change_rewrites.specs.Raw.{Writable, write_of};
+ghost use Rattle.change_segment.specs.Sides.{sides, write_at, writes_of, middle, cut_of, compared_of, shares_of, unrefs_of, bytes_of};
 
 use change_def::{RangeChange, Rewrite};
 use change_segment::{Parts, back_new, front_new};
@@ -26,33 +24,33 @@ use drop_lines::Cut;
 // ---- writes
 
 // A sector's write to its new extent as line n, if it takes one.
-fn put_new_write(anew: bool, r: Rewrite, place: u64, out: &mut [u64], n: usize) -> usize
+fn put_new_write(r: Option<Rewrite>, place: u64, out: &mut [u64], n: usize) -> usize
     requires { n + 1 < 2 ^ 64 }
-    ensures { Laid write_numbers 4 n (only anew (write_at r place)) out.old result out.new }
+    ensures { Laid write_numbers 4 n (map (write_at place) (option_to_list r)) out.old result out.new }
 {
-    if !anew {
+    let Some(r) = r else {
         return n;
-    }
+    };
     plan_lines::put_write(out, n, r.sector, place, r.first, r.end)
 }
 
 // The writes in place of a plan.
-fn put_writes_in_place(c: RangeChange, p: Parts, out: &mut [u64]) -> usize
-    requires { Writable c.front p.front × Writable c.back p.back }
-    ensures { Laid write_numbers 4 0 (sides p.front.found p.back.found (write_in_place c.front (holder_leaf p.front)) (write_in_place c.back (holder_leaf p.back))) out.old result out.new }
+fn put_writes_in_place(p: Parts, out: &mut [u64]) -> usize
+    requires { Writable p.front × Writable p.back }
+    ensures { Laid write_numbers 4 0 (sides p.front p.back write_of write_of) out.old result out.new }
 {
-    let n = change_rewrites::put_in_place(c.front, p.front, out, 0);
-    change_rewrites::put_in_place(c.back, p.back, out, n)
+    let n = change_rewrites::put_in_place(p.front, out, 0);
+    change_rewrites::put_in_place(p.back, out, n)
 }
 
 // The writes of a plan: those in place first.
 pub fn put_writes(c: RangeChange, p: Parts, x: u64, y: u64, out: &mut [u64]) -> usize
-    requires { Writable c.front p.front × Writable c.back p.back }
+    requires { Writable p.front × Writable p.back }
     ensures { Laid write_numbers 4 0 (writes_of c p x y) out.old result out.new }
 {
-    let n = put_writes_in_place(c, p, out);
-    let m = put_new_write(front_new(c, p), c.front, x, out, n);
-    put_new_write(back_new(c, p), c.back, y, out, m)
+    let n = put_writes_in_place(p, out);
+    let m = put_new_write(front_new(c, p), x, out, n);
+    put_new_write(back_new(c, p), y, out, m)
 }
 
 // ---- shares, unrefs and releases

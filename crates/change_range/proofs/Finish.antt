@@ -6,6 +6,7 @@ use Prim.Native.Nat.{ℕ, zero, suc, ◌+◌, ◌-◌, ◌*◌, ◌/◌, ◌≤�
 use native.Mathlib.Omega.{arith}
 use native.Mathlib.Nat.{zero-add, le-div_iff_mul-le}
 use lib.ListN.{length, get_or, take, drop, replicate, length-map, length-append, length-replicate}
+use Rattle.std.specs.Prelude.{Option, Some, None}
 use Rattle.records.specs.Stages.{unless, first, first_of}
 use Rattle.records.proofs.Lists.{every_true}
 use Rattle.records.proofs.Tests.{first-zero, unless-zero, first_last}
@@ -31,6 +32,7 @@ use Rattle.plan_def.specs.ReadBack.{add_in, adds_in}
 use Rattle.edit_lines.specs.Pieced.{piece_item, piece_items}
 use Rattle.change_def.specs.declared.RangeChange.{RangeChange}
 use Rattle.change_def.specs.declared.Fill.{Fill}
+use Rattle.change_def.specs.declared.Rewrite.{Rewrite}
 use Rattle.change_def.specs.Rewrites.{Ground}
 use Rattle.change_def.specs.Preallocs.{Stretch, piece_limit, prealloc_pieces}
 use Rattle.change_def.specs.Changes.{Change, before as items_before, new_items, sectors_wanted, pieces_wanted, wanted, plan_of, changed}
@@ -43,27 +45,31 @@ use Rattle.change_places.specs.Wishes.{wanted_of}
 use Rattle.change_places.proofs.Keys.{placed_spans, sound_spans}
 use Rattle.change_rewrites.specs.Raw.{lent_ground}
 use Rattle.change_segment.specs.declared.Parts.{Parts}
-use Rattle.change_segment.specs.Sides.{front_new, back_new, sides}
+use Rattle.change_segment.specs.Sides.{front_new, back_new, sides, one_if, anew_count, places_at}
+use Rattle.change_segment.proofs.Sides.{sides-count}
 use Rattle.change_lay.specs.declared.Counts.{Counts}
 use Rattle.change_lay.proofs.Outputs.{fitting, outputs-laid, met-refused}
 use Rattle.change_lay.specs.Laid.{Pieced, plan_at, after_at, edits_at, PlanLaid}
 use Rattle.change_draft.specs.declared.Needs.{Needs}
 use Rattle.change_range.specs.Raw.{Accepted, FinishWhy}
 use Rattle.change_draft.proofs.Filled.{pieced, edits_now, writes_now, shares_now, unrefs_now, releases_now}
-use Rattle.change_draft.proofs.Drafting.{sides-count, draft_passed, sectors_many}
+use Rattle.change_draft.proofs.Drafting.{draft_passed, sectors_many}
 
 -- ---- places
 
 -- the places are those of the two sides, and the others
-places-sides : (a b : Bool) (ps : List ℕ) → cond a 1 0 + cond b 1 0 ≤ length ps → ps ≡ sides a b (get_or ps 0 0) (get_or ps (cond a 1 0) 0) ++ drop (cond a 1 0 + cond b 1 0) ps
-places-sides true true (x ∷ y ∷ ps) h = refl
-places-sides true true [] h = absurd (omega arith)
-places-sides true true (x ∷ []) h = absurd (omega arith)
-places-sides true false (x ∷ ps) h = refl
-places-sides true false [] h = absurd (omega arith)
-places-sides false true (x ∷ ps) h = refl
-places-sides false true [] h = absurd (omega arith)
-places-sides false false ps h = refl
+places-sides :
+    {A : Type 0} (a b : Option A) (ps : List ℕ)
+    → one_if a + one_if b ≤ length ps
+    → ps ≡ sides a b (λ (r : A). get_or ps 0 0) (λ (r : A). get_or ps (one_if a) 0) ++ drop (one_if a + one_if b) ps
+places-sides (Some r) (Some q) (x ∷ y ∷ ps) h = refl
+places-sides (Some r) (Some q) [] h = absurd (omega arith)
+places-sides (Some r) (Some q) (x ∷ []) h = absurd (omega arith)
+places-sides (Some r) None (x ∷ ps) h = refl
+places-sides (Some r) None [] h = absurd (omega arith)
+places-sides None (Some q) (x ∷ ps) h = refl
+places-sides None (Some q) [] h = absurd (omega arith)
+places-sides None None ps h = refl
 
 -- the adds at the other places
 placed-drop : (ps qs : List ℕ) (ws us : List Wanted) → length ps ≡ length ws → drop (length ps) (placed (ps ++ qs) (ws ++ us)) ≡ placed qs us
@@ -165,23 +171,20 @@ module _ (v : Volume) (f : File) (c : RangeChange) (w : Fill) (p : Parts) (n : N
   -- ---- the writing
 
   module _ (before : Outs) (sound : places_sound (rows table) ps ws ≡ true) (fits : room_for (rooms_of before) q ≡ true) where
-    abbrev front : Bool
-    front = front_new c p
-
-    abbrev back : Bool
-    back = back_new c p
-
     abbrev x : ℕ
     x = get_or ps 0 0
 
     abbrev y : ℕ
-    y = get_or ps (cond front 1 0) 0
+    y = get_or ps (one_if (front_new c p)) 0
 
     abbrev k : ℕ
-    k = cond front 1 0 + cond back 1 0
+    k = anew_count c p
 
     abbrev first-places : List ℕ
-    first-places = sides front back x y
+    first-places = places_at c p x y
+
+    first-count : k ≡ length first-places
+    first-count = sides-count (front_new c p) (back_new c p) (λ (r : Rewrite). x) (λ (r : Rewrite). y)
 
     abbrev others' : List ℕ
     others' = drop k ps
@@ -196,10 +199,10 @@ module _ (v : Volume) (f : File) (c : RangeChange) (w : Fill) (p : Parts) (n : N
     k-many = sectors_many v f c w p list shared table ac.started.part
 
     firsts : length first-places ≡ length (sectors_wanted g' d' piece_limit)
-    firsts = sym (sides-count front back x y) ∙ k-many
+    firsts = sym first-count ∙ k-many
 
     split : ps ≡ first-places ++ others'
-    split = places-sides front back ps (omega (arith, places-many, k-many, length-append (sectors_wanted g' d' piece_limit) (pieces_wanted g' d' piece_limit)))
+    split = places-sides (front_new c p) (back_new c p) ps (omega (arith, places-many, k-many, length-append (sectors_wanted g' d' piece_limit) (pieces_wanted g' d' piece_limit)))
 
     adds_are : q.adds ≡ placed ps (map wanted_of (wishes n.extents (items list)))
     adds_are = placed_spans ps ws (wishes n.extents (items list)) extents-told
@@ -240,7 +243,7 @@ module _ (v : Volume) (f : File) (c : RangeChange) (w : Fill) (p : Parts) (n : N
           rw (m_is, adds-laid)
           (lay_read add_numbers 3 add_in (omega arith) (λ a. refl) (λ a. true) (λ a u s. refl) q.adds before.adds k (every_true q.adds) room (omega (arith, adds-number, places-many, k-many, length-append (sectors_wanted g' d' piece_limit) (pieces_wanted g' d' piece_limit)))
           ∙ ap (λ (l : List ℕ). drop k (placed l ws)) split
-          ∙ ap (λ (i : ℕ). drop i (placed (first-places ++ others') ws)) (sides-count front back x y)
+          ∙ ap (λ (i : ℕ). drop i (placed (first-places ++ others') ws)) first-count
           ∙ placed-drop first-places others' (sectors_wanted g' d' piece_limit) (pieces_wanted g' d' piece_limit) firsts)
 
       part-items : piece_items f.number (v.generation + 1) part ≡ new_items g' others' (pieces_wanted g' d' piece_limit)
@@ -276,9 +279,9 @@ module _ (v : Volume) (f : File) (c : RangeChange) (w : Fill) (p : Parts) (n : N
           (h.writes.output ∙ ap (λ (l : List Write). lay write_numbers 4 0 l before.writes) e6)
 
       -- the same for the places and the part that the code has
-      module _ (x' y' j n' : ℕ) (b : Bool) (px : x' ≡ get_or ps 0 0) (pb : b ≡ front_new c p) (pj : j ≡ 0 + cond b 1 0) (py : y' ≡ get_or ps j 0) (pn : n' ≡ k) where
+      module _ (x' y' j n' : ℕ) (px : x' ≡ get_or ps 0 0) (pj : j ≡ one_if (front_new c p)) (py : y' ≡ get_or ps j 0) (pn : n' ≡ k) where
         y_is : y' ≡ y
-        y_is = py ∙ ap (λ (i : ℕ). get_or ps i 0) (pj ∙ zero-add _ ∙ ap (λ (t : Bool). cond t 1 0) pb)
+        y_is = py ∙ ap (λ (i : ℕ). get_or ps i 0) pj
 
         pub order-at : n' * 3 ≤ m * 3
         order-at = rw pn part-order

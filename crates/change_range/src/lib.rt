@@ -79,7 +79,8 @@ fn write_plan(
         (six edits shares unrefs releases adds writes) }
 {
     let x = place_at(places, 0);
-    let y = place_at(places, records::counted(0, change_segment::front_new(c, p)));
+    let front = change_segment::front_new(c, p).is_some();
+    let y = place_at(places, usize::from(front));
     let from = change_draft::sectors_anew(c, p) * 3;
     let to = change_places::put_adds(n.extents, list, places, adds) * 3;
     change_lay::lay_plan(

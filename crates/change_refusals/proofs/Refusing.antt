@@ -1,15 +1,16 @@
 -- The refusals of a change, stage by stage. Assumes nothing.
 use mathlib.Core.Path.{◌≡◌, refl, ap, ap₂, ◌∙◌, sym}
-use mathlib.Core.Bool.{Bool, true, false}
-use mathlib.Core.List.{List, map}
+use mathlib.Core.Bool.{Bool}
+use mathlib.Core.List.{List, ◌++◌, map}
 use Prim.Native.Nat.{ℕ, ◌-◌, ◌*◌, ◌≤◌}
 use native.Mathlib.Omega.{arith}
 use native.Mathlib.Nat.{sub-zero}
 use lib.ListN.{length, take, drop}
 use borrow.Author.Tests.{ne_eqb}
+use Rattle.std.specs.Prelude.{Option, Some, None, option_to_list}
 use Rattle.records.specs.Records.{records}
 use Rattle.records.specs.Stages.{whenever, first, first_of, stage}
-use Rattle.records.specs.Select.{only, keep}
+use Rattle.records.specs.Select.{keep}
 use Rattle.records.proofs.Tests.{first_go, first_last}
 use Rattle.item.specs.Items.{Fields, items}
 use Rattle.table.specs.Rows.{rows, one_more_reference}
@@ -34,24 +35,24 @@ use Rattle.change_def.specs.Raw.{change_of}
 use Rattle.change_rewrites.specs.Raw.{lent_ground}
 use Rattle.change_segment.specs.declared.Parts.{Parts}
 use Rattle.change_segment.specs.Raw.{Parting, Made}
-use Rattle.change_segment.specs.Sides.{sides, joined_pieces, cut_of, middle, compared_of}
+use Rattle.change_segment.specs.Sides.{joined_pieces, cut_of, middle, compared_of}
 use Rattle.change_lines.proofs.Spans.{segment_most}
 use Rattle.change_segment.proofs.Planned.{shares-most, shared_same, drops_same}
 
 -- ---- the two sides, each if it is there
 
-pub sides-stage : {A : Type 0} (t : A → ℕ) (a b : Bool) (x y : A) → first (stage t (only a x)) (stage t (only b y)) ≡ stage t (sides a b x y)
+pub sides-stage : {A : Type 0} (t : A → ℕ) (a b : Option A) → first (stage t (option_to_list a)) (stage t (option_to_list b)) ≡ stage t (option_to_list a ++ option_to_list b)
 unfolding stage first
-sides-stage t true b x y = ap (λ (n : ℕ). first n (stage t (only b y))) (first_last (t x))
-sides-stage t false b x y = refl
+sides-stage t (Some x) b = ap (λ (n : ℕ). first n (stage t (option_to_list b))) (first_last (t x))
+sides-stage t None b = refl
 
-pub one-stage : {A : Type 0} (t : A → ℕ) (b : Bool) (x : A) → b ≡ true → t x ≡ stage t (only b x)
+pub one-stage : {A : Type 0} (t : A → ℕ) (a : Option A) (x : A) → a ≡ Some x → t x ≡ stage t (option_to_list a)
 unfolding stage
-one-stage t b x e = rw e (sym (first_last (t x)))
+one-stage t a x e = rw e (sym (first_last (t x)))
 
-pub no-stage : {A : Type 0} (t : A → ℕ) (b : Bool) (x : A) → b ≡ false → 0 ≡ stage t (only b x)
+pub no-stage : {A : Type 0} (t : A → ℕ) (a : Option A) → a ≡ None → 0 ≡ stage t (option_to_list a)
 unfolding stage
-no-stage t b x e = rw e refl
+no-stage t a e = rw e refl
 
 -- ---- shares, read from their lines
 

@@ -1,8 +1,7 @@
 // All refusals of a change from 13 on, but for those of places and of room, with no place taken.
 #![tactic(auto)]
 
-ghost use Rattle.std.specs.Prelude.{true, List, ◌≡◌, ℕ, length};
-ghost use Rattle.records.specs.Select.{only};
+ghost use Rattle.std.specs.Prelude.{true, List, ◌≡◌, ℕ, length, option_to_list};
 ghost use Rattle.records.specs.Stages.{stage};
 ghost use Rattle.item.specs.Items.{items};
 ghost use Rattle.table.specs.Rows.{rows, table_kept, one_more_reference};
@@ -24,21 +23,22 @@ use request::{File, Volume};
 
 // Refusals 16, 14, 17 and 18 of a sector, if it is rewritten.
 fn rewrite_if(
-    has: bool,
     v: Volume,
     f: File,
-    r: Rewrite,
+    r: Option<Rewrite>,
     list: &[u8],
     shared: &[u8],
     table: &[u64],
 ) -> u8
     requires { Sound (lent_ground v f list.now shared.now table.now) × (length shared.now ≡ length (items list.now)) }
-    ensures { result ≡ stage (rewrite_refusal (lent_ground v f list.now shared.now table.now)) (only has r) }
+    ensures { result ≡ stage (rewrite_refusal (lent_ground v f list.now shared.now table.now)) (option_to_list r) }
 {
-    if !has {
+    let Some(r) = r else {
         return 0;
-    }
-    change_rewrites::rewrite_refusal(v, f, r, list, shared, table)
+    };
+    records::refusal::number_of(change_rewrites::rewrite_refusal(
+        v, f, r, list, shared, table,
+    ))
 }
 
 // Those of a change's sectors, the front one first.
@@ -53,8 +53,8 @@ pub fn rewrites_refusal(
     requires { Sound (lent_ground v f list.now shared.now table.now) × (length shared.now ≡ length (items list.now)) }
     ensures { result ≡ stage (rewrite_refusal (lent_ground v f list.now shared.now table.now)) (change_of c f.size).rewrites }
 {
-    let front = rewrite_if(c.has_front, v, f, c.front, list, shared, table);
-    let back = rewrite_if(c.has_back, v, f, c.back, list, shared, table);
+    let front = rewrite_if(v, f, c.front, list, shared, table);
+    let back = rewrite_if(v, f, c.back, list, shared, table);
     first(front, back)
 }
 

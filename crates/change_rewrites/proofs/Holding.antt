@@ -2,12 +2,14 @@
 use mathlib.Core.Path.{◌≡◌, refl, sym}
 use mathlib.Core.Bool.{Bool, true, false, cond, ◌&&◌, and-false}
 use mathlib.Core.List.{List, [], ◌∷◌}
-use mathlib.Core.Option.{Option, none, some}
+use mathlib.Core.Option as maybe
+use mathlib.Core.Option.{none, some}
 use Prim.Native.Nat.{ℕ, suc, ◌<◌, ◌≤◌}
 use native.Mathlib.Omega.{arith}
 use lib.Dec.{eqb, leb}
 use lib.ListN.{length, get_or}
 use borrow.Author.Tests.{leb-true, leb-false, lt-leb, le-ltb}
+use Rattle.std.specs.Prelude.{Option, Some, None}
 use Rattle.item.specs.Items.{Fields, fields, items, end}
 use Rattle.lists.proofs.Laws.{well_kept_lem}
 use Rattle.cut_def.specs.Mappings.{named, holds}
@@ -45,7 +47,7 @@ module _ (o : ℕ) where
   none_later b (f ∷ fs) (x ∷ bs) r h = rw (later f (omega (arith, r.0))) (none_later (end f) fs bs r.4 (omega (arith, r.0)))
 
   -- item i with its byte, if it holds the offset
-  abbrev leaf_at : List Fields → List ℕ → ℕ → Option InLeaf
+  abbrev leaf_at : List Fields → List ℕ → ℕ → maybe.Option InLeaf
   leaf_at fs bs i = cond (holds o (get_or fs i nothing)) (some (record { item = get_or fs i nothing; shared = get_or bs i 0 })) none
 
   holder_here : (b : ℕ) (fs : List Fields) (bs : List ℕ) → Runs b fs → length bs ≡ length fs → leading (ends_by o) fs < length fs → holder_of o (in_leaves fs bs) ≡ leaf_at fs bs (leading (ends_by o) fs)
@@ -86,28 +88,8 @@ module _ (o : ℕ) where
       holder_free k = rw k at holder_found
 
 -- what a search says
-pub found_some : (h : Holder) (x : Option InLeaf) → holder_in h ≡ x → h.found ≡ true → some (holder_leaf h) ≡ x
-found_some h x e t = rw t at e
+pub found_some : (o : Option Holder) (h : Holder) (x : maybe.Option InLeaf) → o ≡ Some h → holder_in o ≡ x → some (holder_leaf h) ≡ x
+found_some o h x t e = rw t at e
 
-pub found_none : (h : Holder) (x : Option InLeaf) → holder_in h ≡ x → h.found ≡ false → none ≡ x
-found_none h x e t = rw t at e
-
--- the preallocated one of it, where the sector is rewritten
-pub found-preallocated :
-    (has : Bool) (r : Rewrite) (hs : List InLeaf) (h : Holder) (k : ℕ) (b : Bool)
-    → has ≡ true
-    → holder_in h ≡ holder_of r.sector hs
-    → k ≡ (fields h.item).kind
-    → b ≡ (h.found && eqb k 2)
-    → cond b (some (holder_leaf h)) none ≡ cond has (preallocated_in hs r) none
-found-preallocated has r hs h k b t e pk pb =
-    let q : preallocated_in hs r ≡ when_held (holder_in h) none (λ (x : InLeaf). cond (eqb x.item.kind 2) (some x) none) = rw (← e) refl in
-    rw (t, pb, pk, q) (go h.found (eqb (fields h.item).kind 2) refl)
-  where
-    go : (found two : Bool) → eqb (fields h.item).kind 2 ≡ two
-        → cond (found && two) (some (holder_leaf h)) none ≡ when_held (cond found (some (holder_leaf h)) none) none (λ (x : InLeaf). cond (eqb x.item.kind 2) (some x) none)
-    go true two p = rw p refl
-    go false two p = refl
-
-pub unasked : (has : Bool) (h : Holder) (x : Option InLeaf) → has ≡ false → holder_in h ≡ none → holder_in h ≡ cond has x none
-unasked has h x t e = rw t e
+pub found_none : (o : Option Holder) (x : maybe.Option InLeaf) → o ≡ None → holder_in o ≡ x → none ≡ x
+found_none o x t e = rw t at e

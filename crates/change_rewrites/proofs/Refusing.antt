@@ -36,61 +36,19 @@ position_facts f o s h =
     let fits = (range_facts f s).fits in
     (low, omega arith)
 
-module _ (sector snapshot : ℕ) (fs : List Fields) (rows : List Row) (r : Rewrite) (h : InLeaf) where
-  pub in_place_missing : (s : ℕ) → s ≡ h.item.extent_start → None ≡ find s rows → 14 ≡ in_place_why sector snapshot fs rows r h
-  in_place_missing s p e = with_none h.item.extent_start rows _ (rw p at e)
-
-  -- each premise is what a call of the code ensures
-  pub in-place-found :
-      (s k : ℕ) (row : Row) (at : ℕ) (inside : Bool) (n a : ℕ) (fresh own : Bool) (b why : ℕ)
-      → s ≡ h.item.extent_start
-      → Some (k, row) ≡ find s rows
-      → at ≡ position_of r h
-      → inside ≡ window_inside (s + at) sector s row.length
-      → n ≡ naming s fs
-      → a ≡ unless inside 17
-      → fresh ≡ (ltb snapshot row.made && eqb h.shared 0)
-      → own ≡ (eqb row.references n && fresh)
-      → b ≡ unless own 18
-      → why ≡ first a b
-      → why ≡ in_place_why sector snapshot fs rows r h
-  unfolding first_of
-  in-place-found s k row at inside n a fresh own b why ps pe pat pin pn pa pf po pb pw =
-      let e : Some (k, row) ≡ find h.item.extent_start rows = rw ps at pe in
-      rw (pw, pa, pb, po, pf, pn, pin, pat, ps, ← e, first_last) refl
-
 -- ---- a rewrite, by the item that holds its sector
 
 module _ (g : Ground) (r : Rewrite) where
-  pub rewrite_none : none ≡ holder_of r.sector g.in_leaves → 0 ≡ rewrite_refusal g r
-  rewrite_none e = rw (← e) refl
-
-  -- 16, and nothing else where the item is not preallocated
-  pub rewrite-anew :
-      (h : InLeaf) (k : ℕ) (b : Bool) (why : ℕ)
-      → some h ≡ holder_of r.sector g.in_leaves
-      → k ≡ h.item.kind
-      → b ≡ (g.nodatacow && eqb k 1)
-      → why ≡ whenever b 16
-      → eqb k 2 ≡ false
-      → why ≡ rewrite_refusal g r
-  rewrite-anew h k b why e pk pb pw n =
-      let m : eqb h.item.kind 2 ≡ false = rw pk at n in
-      rw (pw, pb, pk, ← e, m, first_last) refl
-
+  -- one that 16 does not refuse, of a preallocated item
   pub rewrite-in-place :
-      (h : InLeaf) (k : ℕ) (b : Bool) (a x why : ℕ)
+      (h : InLeaf) (why : ℕ)
       → some h ≡ holder_of r.sector g.in_leaves
-      → k ≡ h.item.kind
-      → b ≡ (g.nodatacow && eqb k 1)
-      → a ≡ whenever b 16
-      → eqb k 2 ≡ true
-      → x ≡ in_place_refusal g r h
-      → why ≡ first a x
+      → (g.nodatacow && eqb h.item.kind 1) ≡ false
+      → h.item.kind ≡ 2
+      → why ≡ in_place_refusal g r h
       → why ≡ rewrite_refusal g r
-  rewrite-in-place h k b a x why e pk pb pa n px pw =
-      let m : eqb h.item.kind 2 ≡ true = rw pk at n in
-      rw (pw, pa, pb, pk, px, ← e, m) refl
+  unfolding first
+  rewrite-in-place h why e n k pw = rw (pw, ← e, n, k) refl
 
 -- the item found holds the offset, and its range is sound
 pub holder-sound : (g : Ground) (o : ℕ) (h : InLeaf) → Sound g → some h ≡ holder_of o g.in_leaves → (range_sound h.item ≡ true) × (holds o h.item ≡ true)

@@ -1,10 +1,10 @@
 // Sectors that are rewritten: which item holds one, and the refusals 16, 14, 17 and 18 of writing it in place.
-#![tactic(auto)]
+#![tactic(auto, unfolding(records::specs::Stages::first, records::specs::Stages::first_of, records::specs::Stages::stage))]
 
-ghost use Rattle.std.specs.Prelude.{true, cond, ◌≡◌, ◌+◌, ◌<◌, ◌^◌, length};
-ghost use Rattle.std.proofs.Math.Option.{none};
+ghost use Rattle.std.specs.Prelude.{true, None, ◌≡◌, ◌+◌, ◌<◌, ◌^◌, map, length, option_to_list};
+ghost use Rattle.std.specs.Option.{ForSome};
 ghost use Rattle.records.specs.Lent.{old, new};
-ghost use Rattle.records.specs.Select.{only};
+ghost use Rattle.records.specs.Refusals.{why};
 ghost use Rattle.item.specs.Items.{fields, items, written_in_place};
 ghost use Rattle.cut_def.specs.Mappings.{holds};
 ghost use Rattle.cut_def.specs.Refs.{naming};
@@ -14,72 +14,68 @@ ghost use Rattle.plan_def.specs.Outputs.{write_numbers};
 ghost use Rattle.plan_lines.specs.Lines.{Laid};
 ghost use Rattle.table.specs.Rows.{rows, table_kept};
 ghost use Rattle.lists.specs.Lists.{range_sound};
-ghost use Rattle.change_def.specs.Rewrites.{holder_of, preallocated_in, position_of, write_in_place, rewrite_refusal};
+ghost use Rattle.change_def.specs.Rewrites.{holder_of, position_of, rewrite_refusal};
 ghost use Rattle.change_def.proofs.Fair.{Sound};
-ghost use Rattle.change_rewrites.specs.Raw.{holder_leaf, holder_in, lent_ground, in_place_why};
+ghost use Rattle.change_rewrites.specs.Raw.{holder_leaf, holder_in, lent_ground, in_place_why, Held, Writable, in_place_of, said_in_place, extent_of, write_of, item_of};
 
 use change_def::Rewrite;
 use item::Item;
-use records::{both, first, refusal, sum_past, unless, whenever};
+use records::refusal::{Refusal, check};
+use records::sum_past;
 use request::{File, Volume};
 
-// The item that holds an offset, with its shared byte, if there is one.
+// An item that holds an offset, with its shared byte.
 #[derive(Clone, Copy)]
 pub struct Holder {
-    pub found: bool,
     pub item: Item,
     pub shared: u8,
+}
+
+// A sector that is written in place, and the preallocated item that holds it.
+#[derive(Clone, Copy)]
+pub struct InPlace {
+    pub rewrite: Rewrite,
+    pub holder: Holder,
 }
 
 // Whether an item holds an offset.
 pub fn is_holding(o: u64, item: Item) -> bool
     ensures { result ≡ holds o (fields item) }
 {
-    both(
-        ref_def::is_named(item),
-        both(item.key <= o, sum_past(item.key, item.length(), o)),
-    )
-}
-
-// No item.
-fn no_holder() -> Holder
-    ensures { holder_in result ≡ none }
-{
-    Holder {
-        found: false,
-        item: Item::regular_extent_item(0, 0, 0, 0, 0),
-        shared: 0,
-    }
+    ref_def::is_named(item) && (item.key <= o && sum_past(item.key, item.length(), o))
 }
 
 // The port's `holding_item`: of records that run one behind the other only the first that ends past the offset can hold it.
-pub fn holding_item(o: u64, list: &[u8], shared: &[u8]) -> Holder
+pub fn holding_item(o: u64, list: &[u8], shared: &[u8]) -> Option<Holder>
     requires { (length shared.now ≡ length (items list.now)) × Runs 0 (items list.now) }
     ensures { holder_in result ≡ holder_of o (in_leaves (items list.now) shared.now) }
 {
     let i = cut_segment::ending_by(list, o);
     if list.len() / item::RECORD <= i {
-        return no_holder();
+        return None;
     }
     let item = cut_segment::record_at(list, i);
+    let holder = Holder {
+        item,
+        shared: shared[i],
+    };
     if is_holding(o, item) {
-        return Holder {
-            found: true,
-            item,
-            shared: shared[i],
-        };
+        Some(holder)
+    } else {
+        None
     }
-    no_holder()
 }
 
 // How many items of a list name the extent at `start`.
+#[tactic(auto, unfolding(records::specs::Select::count))]
 pub fn naming(list: &[u8], start: u64) -> usize
     ensures { result ≡ naming start (items list.now) }
 {
-    let n = list.len() / item::RECORD;
     let mut k: usize = 0;
-    for i in 0..n {
-        k = records::counted(k, ref_def::is_naming(start, item::item_at(list, i)));
+    for item in item::items(list) {
+        if ref_def::is_naming(start, item) {
+            k += 1;
+        }
     }
     k
 }
@@ -89,28 +85,32 @@ pub fn position_of(r: Rewrite, h: Holder) -> u64
     requires { (range_sound (fields h.item) ≡ true) × (holds r.sector (fields h.item) ≡ true) }
     ensures { result ≡ position_of r (holder_leaf h) }
 {
-    let item = h.item;
-    item.position() + (r.sector - item.key)
+    h.item.position() + (r.sector - h.item.key)
 }
 
 // Refusals 14, 17 and 18 of writing a sector in place.
-fn in_place_refusal(v: Volume, r: Rewrite, h: Holder, list: &[u8], table: &[u64]) -> u8
+fn in_place_refusal(
+    v: Volume,
+    r: Rewrite,
+    h: Holder,
+    list: &[u8],
+    table: &[u64],
+) -> Result<(), Refusal>
     requires { (range_sound (fields h.item) ≡ true) × (holds r.sector (fields h.item) ≡ true) × (table_kept (rows table.now) ≡ true) }
-    ensures { result ≡ in_place_why v.sector v.snapshot (items list.now) (rows table.now) r (holder_leaf h) }
+    ensures { why result ≡ in_place_why v.sector v.snapshot (items list.now) (rows table.now) r (holder_leaf h) }
 {
-    let item = h.item;
-    let start = item.extent_start();
+    let start = h.item.extent_start();
     let Some((_, row)) = table::find_row(table, start) else {
-        return refusal::NO_ROW;
+        return Err(Refusal::NoRow);
     };
-    let inside = table::item_window_inside(start, position_of(r, h), v.sector, row.length);
+    check(
+        table::item_window_inside(start, position_of(r, h), v.sector, row.length),
+        Refusal::Window,
+    )?;
     let own = row.references == naming(list, start) as u64;
-    first(
-        unless(inside, refusal::WINDOW),
-        unless(
-            both(own, both(v.snapshot < row.made, h.shared == 0)),
-            refusal::READ_ELSEWHERE,
-        ),
+    check(
+        own && (v.snapshot < row.made && h.shared == 0),
+        Refusal::ReadElsewhere,
     )
 }
 
@@ -122,66 +122,64 @@ pub fn rewrite_refusal(
     list: &[u8],
     shared: &[u8],
     table: &[u64],
-) -> u8
+) -> Result<(), Refusal>
     requires { Sound (lent_ground v f list.now shared.now table.now) × (length shared.now ≡ length (items list.now)) }
-    ensures { result ≡ rewrite_refusal (lent_ground v f list.now shared.now table.now) r }
+    ensures { why result ≡ rewrite_refusal (lent_ground v f list.now shared.now table.now) r }
 {
-    let h = holding_item(r.sector, list, shared);
-    if !h.found {
-        return 0;
-    }
-    let item = h.item;
-    let kind = item.kind();
-    let why = whenever(both(f.nodatacow, kind == 1), refusal::NODATACOW);
+    let Some(h) = holding_item(r.sector, list, shared) else {
+        return Ok(());
+    };
+    let kind = h.item.kind();
+    check(!(f.nodatacow && kind == 1), Refusal::Nodatacow)?;
     if kind != 2 {
-        return why;
+        return Ok(());
     }
-    first(why, in_place_refusal(v, r, h, list, table))
+    in_place_refusal(v, r, h, list, table)
 }
 
-// The preallocated item that holds a sector, if there is one and the sector is to be rewritten: it is then written in place.
-pub fn preallocated(has: bool, r: Rewrite, list: &[u8], shared: &[u8]) -> Holder
+// A sector that is to be rewritten, if a preallocated item holds it: it is then written in place.
+pub fn preallocated(r: Option<Rewrite>, list: &[u8], shared: &[u8]) -> Option<InPlace>
     requires { (length shared.now ≡ length (items list.now)) × Runs 0 (items list.now) }
-    ensures { holder_in result ≡ cond has (preallocated_in (in_leaves (items list.now) shared.now) r) none }
+    ensures { said_in_place result ≡ in_place_of (in_leaves (items list.now) shared.now) r }
 {
-    if !has {
-        return no_holder();
+    let rewrite = r?;
+    let holder = holding_item(rewrite.sector, list, shared)?;
+    if holder.item.kind() != 2 {
+        return None;
     }
-    let h = holding_item(r.sector, list, shared);
-    let item = h.item;
-    Holder {
-        found: both(h.found, item.kind() == 2),
-        item,
-        shared: h.shared,
-    }
+    Some(InPlace { rewrite, holder })
 }
 
-// The extent of a sector that is written in place; 0 if it is not.
-pub fn extent_in_place(h: Holder) -> u64
-    ensures { result ≡ cond h.found (fields h.item).extent_start 0 }
+// The extent of a sector that is written in place; 0 if there is none.
+pub fn extent_in_place(w: Option<InPlace>) -> u64
+    ensures { result ≡ extent_of w }
 {
-    let item = h.item;
-    records::pick(h.found, item.extent_start(), 0)
+    match w {
+        Some(w) => w.holder.item.extent_start(),
+        None => 0,
+    }
 }
 
 // The item over a sector that is written in place.
-pub fn item_in_place(v: Volume, r: Rewrite, h: Holder) -> Item
-    requires { (range_sound (fields h.item) ≡ true) × (holds r.sector (fields h.item) ≡ true) × (v.generation + 1 < 2 ^ 64) }
-    ensures { fields result ≡ written_in_place (fields h.item) r.sector (v.generation + 1) (position_of r (holder_leaf h)) v.sector }
+pub fn item_in_place(v: Volume, w: InPlace) -> Item
+    requires { Held w × (v.generation + 1 < 2 ^ 64) }
+    ensures { fields result ≡ item_of v w }
 {
-    let item = h.item;
-    item.written_in_place(r.sector, v.generation + 1, position_of(r, h), v.sector)
+    let at = position_of(w.rewrite, w.holder);
+    w.holder
+        .item
+        .written_in_place(w.rewrite.sector, v.generation + 1, at, v.sector)
 }
 
-// The write of a sector in place, if it is one, as line n.
-pub fn put_in_place(r: Rewrite, h: Holder, out: &mut [u64], n: usize) -> usize
-    requires { (h.found ≡ true → (range_sound (fields h.item) ≡ true) × (holds r.sector (fields h.item) ≡ true) × ((fields h.item).extent_start + position_of r (holder_leaf h) < 2 ^ 64)) × (n + 1 < 2 ^ 64) }
-    ensures { Laid write_numbers 4 n (only h.found (write_in_place r (holder_leaf h))) out.old result out.new }
+// The write of a sector in place, if there is one, as line n.
+pub fn put_in_place(w: Option<InPlace>, out: &mut [u64], n: usize) -> usize
+    requires { Writable w × (n + 1 < 2 ^ 64) }
+    ensures { Laid write_numbers 4 n (map write_of (option_to_list w)) out.old result out.new }
 {
-    if !h.found {
+    let Some(w) = w else {
         return n;
-    }
-    let item = h.item;
-    let at = item.extent_start() + position_of(r, h);
+    };
+    let r = w.rewrite;
+    let at = w.holder.item.extent_start() + position_of(r, w.holder);
     plan_lines::put_write(out, n, r.sector, at, r.first, r.end)
 }

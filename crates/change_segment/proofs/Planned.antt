@@ -1,8 +1,9 @@
 -- A change's plan by what the code has of it: the cut with the extents written in place, and the segment that was built.
 -- Assumes nothing.
 use mathlib.Core.Path.{◌≡◌, refl, ap, ap₂, ◌∙◌, sym}
-use mathlib.Core.Bool.{Bool, true, false, cond, ◌&&◌, not, false≢true}
+use mathlib.Core.Bool.{Bool, true, false, ◌&&◌, not}
 use mathlib.Core.List.{List, [], ◌∷◌, ◌++◌, map, map-append}
+use mathlib.Core.Option as maybe
 use mathlib.Core.Option.{none, some}
 use Prim.Native.Nat.{ℕ, ◌+◌, ◌-◌, ◌%◌, ◌<◌, ◌≤◌, ◌^◌}
 use native.Mathlib.Omega.{arith}
@@ -10,10 +11,12 @@ use lib.Dec.{eqb, leb, ltb}
 use lib.ListN.{length, take, drop, take-append-drop, length-take, length-drop}
 use lib.Seq.{drop-drop}
 use borrow.Author.Tests.{eqb-true, leb-true}
+use Rattle.std.specs.Prelude.{Option, Some, None, option_to_list}
+use Rattle.std.specs.Option.{ForSome}
 use Rattle.records.specs.Select.{only, keep}
 use Rattle.records.specs.Stages.{every, stage}
 use Rattle.records.proofs.Tests.{both_left, both_right}
-use Rattle.records.proofs.Lists.{stage-none}
+use Rattle.records.proofs.Lists.{stage-none, every_parts}
 use Rattle.item.specs.Items.{Fields, fields, items, end}
 use Rattle.table.specs.declared.Row.{Row}
 use Rattle.table.proofs.Laws.{window_says}
@@ -42,54 +45,74 @@ use Rattle.ref_compare.proofs.Nearest.{named_start}
 use Rattle.ref_compare.proofs.Times.{minus_common}
 use Rattle.change_def.specs.declared.Rewrite.{Rewrite}
 use Rattle.change_def.specs.declared.RangeChange.{RangeChange}
-use Rattle.change_def.specs.Rewrites.{Ground, ground_of, leaf_items, holder_of, preallocated_in, preallocated, item_in_place, position_of, rewrite_refusal}
+use Rattle.change_def.specs.Rewrites.{Ground, ground_of, leaf_items, holder_of, when_held, preallocated, item_in_place, position_of, rewrite_refusal}
 use Rattle.change_def.specs.Changes.{Change, pieces_written, pieces_joined, pieces_after, extents_in_place, shares_compared, drops, plan_of}
 use Rattle.change_def.specs.Raw.{change_of}
 use Rattle.change_def.proofs.Fair.{Fair, rewrite_inside}
 use Rattle.change_def.proofs.Rewrites.{holder_says, preallocated_says, rewrite_sound}
 use Rattle.change_def.proofs.Rounding.{sector-limit}
-use Rattle.change_rewrites.specs.declared.Holder.{Holder}
-use Rattle.change_rewrites.specs.Raw.{holder_leaf, holder_in}
-use Rattle.change_rewrites.proofs.Holding.{found_some}
+use Rattle.change_rewrites.specs.declared.InPlace.{InPlace}
+use Rattle.change_rewrites.specs.Raw.{holder_leaf, in_place_of, said_in_place, extent_of, Writable}
 use Rattle.change_rewrites.proofs.Refusing.{holder-sound}
 use Rattle.change_segment.specs.declared.Parts.{Parts}
 use Rattle.change_segment.specs.Raw.{Parting, Within, Inside, Ready}
-use Rattle.change_segment.specs.Sides.{front_new, back_new, sides, Writable, joined_pieces, after_pieces, cut_of, middle, compared_of, shares_of, unrefs_of}
-use Rattle.change_segment.proofs.Sides.{each_sides, news-sides}
+use Rattle.change_segment.specs.Sides.{places_at, joined_pieces, after_pieces, cut_of, middle, compared_of, shares_of, unrefs_of}
+use Rattle.change_segment.proofs.Sides.{by_held, each_sides, news-sides}
 
 -- ---- one sector that is written in place
 
-module _ (g : Ground) (has : Bool) (r : Rewrite) (h : Holder) (e : holder_in h ≡ cond has (preallocated g r) none) (t : h.found ≡ true) where
-  -- it is rewritten, and its holder is preallocated
-  found_held : (has ≡ true) × (preallocated g r ≡ some (holder_leaf h))
-  found_held = go has (found_some h (cond has (preallocated g r) none) e t)
-    where
-      go : (has : Bool) → some (holder_leaf h) ≡ cond has (preallocated g r) none → (has ≡ true) × (preallocated g r ≡ some (holder_leaf h))
-      go true z = (refl, sym z)
-      go false z = let n : ◌≡◌ {A = ℕ} 0 1 = cc in absurd (omega arith)
+abbrev with_holder : Rewrite → InLeaf → maybe.Option (Rewrite × InLeaf)
+with_holder r h = some (r, h)
 
-  found_holder : holder_of r.sector g.in_leaves ≡ some (holder_leaf h)
-  found_holder = (preallocated_says g r (holder_leaf h) found_held.1).0
+-- the parts of a pair, if there is one
+abbrev rewrite_in : Rewrite → maybe.Option (Rewrite × InLeaf) → Rewrite
+rewrite_in r none = r
+rewrite_in r (some q) = q.0
+
+abbrev leaf_in : InLeaf → maybe.Option (Rewrite × InLeaf) → InLeaf
+leaf_in h none = h
+leaf_in h (some q) = q.1
+
+module _ (g : Ground) (r : Option Rewrite) (o : Option InPlace) (e : said_in_place o ≡ in_place_of g.in_leaves r) (w : InPlace) (t : o ≡ Some w) where
+  -- it is rewritten, and its holder is preallocated
+  found_held : (r ≡ Some w.rewrite) × (preallocated g w.rewrite ≡ some (holder_leaf w.holder))
+  found_held = go r (rw t at e)
+    where
+      leaf : InLeaf
+      leaf = holder_leaf w.holder
+
+      none-some : {A : Type 0} → with_holder w.rewrite leaf ≡ none → A
+      none-some z = let n : ◌≡◌ {A = ℕ} 0 1 = cc in absurd (omega arith)
+
+      got : (x : Rewrite) (m : maybe.Option InLeaf) → preallocated g x ≡ m → with_holder w.rewrite leaf ≡ when_held m none (with_holder x)
+          → (Some x ≡ Some w.rewrite) × (preallocated g w.rewrite ≡ some leaf)
+      got x none p z = none-some z
+      got x (some h) p z =
+          let a : w.rewrite ≡ x = ap (rewrite_in x) z in
+          let b : leaf ≡ h = ap (leaf_in h) z in
+          (ap (λ (y : Rewrite). Some y) (sym a), ap (preallocated g) a ∙ p ∙ ap (λ (y : InLeaf). some y) (sym b))
+
+      go : (r : Option Rewrite) → with_holder w.rewrite leaf ≡ in_place_of g.in_leaves r → (r ≡ Some w.rewrite) × (preallocated g w.rewrite ≡ some leaf)
+      go None z = none-some z
+      go (Some x) z = got x (preallocated g x) refl z
+
+  found_holder : holder_of w.rewrite.sector g.in_leaves ≡ some (holder_leaf w.holder)
+  found_holder = (preallocated_says g w.rewrite (holder_leaf w.holder) found_held.1).0
 
   -- which is no hole
-  found_extent : eqb (fields h.item).extent_start 0 ≡ false
+  found_extent : eqb (fields w.holder.item).extent_start 0 ≡ false
   found_extent =
-      let i : Fields = fields h.item in
-      named_start i (both_left (named i) (leb i.key r.sector && ltb r.sector (end i)) (holder_says r.sector g.in_leaves (holder_leaf h) found_holder).0)
+      let i : Fields = fields w.holder.item in
+      let k : ℕ = w.rewrite.sector in
+      named_start i (both_left (named i) (leb i.key k && ltb k (end i)) (holder_says k g.in_leaves (holder_leaf w.holder) found_holder).0)
 
 -- its extent, where 0 is none
 extent-one :
-    (g : Ground) (has : Bool) (r : Rewrite) (h : Holder)
-    → holder_in h ≡ cond has (preallocated g r) none
-    → only h.found (fields h.item).extent_start ≡ only (not (eqb (cond h.found (fields h.item).extent_start 0) 0)) (cond h.found (fields h.item).extent_start 0)
-extent-one g has r h e = go h.found refl
-  where
-    x : ℕ
-    x = (fields h.item).extent_start
-
-    go : (b : Bool) → h.found ≡ b → only b x ≡ only (not (eqb (cond b x 0) 0)) (cond b x 0)
-    go true t = rw (found_extent g has r h e t) refl
-    go false t = refl
+    (g : Ground) (r : Option Rewrite) (o : Option InPlace)
+    → said_in_place o ≡ in_place_of g.in_leaves r
+    → map (by_held (λ (x : Rewrite) (h : InLeaf). h.item.extent_start)) (option_to_list o) ≡ only (not (eqb (extent_of o) 0)) (extent_of o)
+extent-one g r None e = refl
+extent-one g r (Some w) e = rw (found_extent g r (Some w) e w refl) refl
 
 -- ---- a list in three parts
 
@@ -121,12 +144,15 @@ unrefs-most k fs segment s =
 
 -- ---- tests over the two sides
 
-pub sides-every : {A : Type 0} (q : A → Bool) (a b : Bool) (x y : A) → every q (sides a b x y) ≡ true → (a ≡ true → q x ≡ true) × (b ≡ true → q y ≡ true)
+pub sides-every :
+    {A : Type 0} (q : A → Bool) (a b : Option A)
+    → every q (option_to_list a ++ option_to_list b) ≡ true
+    → ForSome a (λ (x : A). q x ≡ true) × ForSome b (λ (x : A). q x ≡ true)
 unfolding every
-sides-every q true true x y h = let k = both_right (q x) (q y && true) h in (λ t. both_left (q x) (q y && true) h, λ t. both_left (q y) true k)
-sides-every q true false x y h = (λ t. both_left (q x) true h, λ t. absurd (false≢true t))
-sides-every q false true x y h = (λ t. absurd (false≢true t), λ t. both_left (q y) true h)
-sides-every q false false x y h = (λ t. absurd (false≢true t), λ t. absurd (false≢true t))
+sides-every {A} q a b h = let k = every_parts q (option_to_list a) (option_to_list b) h in (one a k.0, one b k.1)
+  where
+    one : (o : Option A) → every q (option_to_list o) ≡ true → ForSome o (λ (x : A). q x ≡ true)
+    one o h x t = both_left (q x) true (rw t at h)
 
 -- ---- the plan
 
@@ -143,7 +169,7 @@ module _ (v : Volume) (f : File) (c : RangeChange) (p : Parts) (fs : List Fields
   pub extents-cut : extents_in_place g ch ≡ nonzero k.one k.two
   extents-cut =
       each_sides g c f.size p part (λ (r : Rewrite) (h : InLeaf). h.item.extent_start)
-      ∙ ap₂ (λ (a b : List ℕ). a ++ b) (extent-one g c.has_front c.front p.front part.front) (extent-one g c.has_back c.back p.back part.back)
+      ∙ ap₂ (λ (a b : List ℕ). a ++ b) (extent-one g c.front p.front part.front) (extent-one g c.back p.back part.back)
 
   among-cut : (i : Fields) → among (extents_in_place g ch) i ≡ among (k.one ∷ k.two ∷ []) i
   among-cut i = ap (λ (l : List ℕ). among l i) extents-cut ∙ sym (among_nonzero k.one k.two i)
@@ -163,7 +189,7 @@ module _ (v : Volume) (f : File) (c : RangeChange) (p : Parts) (fs : List Fields
         (each_sides g c f.size p part (item_in_place g), each_sides g c f.size p part (λ (r : Rewrite) (h : InLeaf). r.sector), leaves-items fs shared l)
         refl
 
-    pub after_same : (limit x y : ℕ) → pieces_after g ch limit (sides (front_new c p) (back_new c p) x y) ≡ after_pieces v f c p x y fs
+    pub after_same : (limit x y : ℕ) → pieces_after g ch limit (places_at c p x y) ≡ after_pieces v f c p x y fs
     unfolding pieces_after
     after_same limit x y = rw (news-sides g c f.size p part limit x y, joined_same) refl
 
@@ -218,24 +244,26 @@ module _ (v : Volume) (f : File) (c : RangeChange) (fs : List Fields) (shared : 
         limit = fair.limit;
       }
 
-  module _ (has : Bool) (r : Rewrite) (h : Holder) (e : holder_in h ≡ cond has (preallocated_in (in_leaves fs shared) r) none) where
+  module _ (r : Option Rewrite) (o : Option InPlace) (e : said_in_place o ≡ in_place_of (in_leaves fs shared) r) where
     -- in its holder, and in what is cut
-    inside_one : (has ≡ true → rewrite_inside (ground_of v f fs shared rs) (change_of c f.size) r ≡ true) → h.found ≡ true → Inside v c r h
-    inside_one w t =
+    inside_one : ForSome r (λ (x : Rewrite). rewrite_inside (ground_of v f fs shared rs) (change_of c f.size) x ≡ true) → ForSome o (Inside v c)
+    inside_one z w t =
         let g : Ground = ground_of v f fs shared rs in
-        let q = holder-sound g r.sector (holder_leaf h) fair.sound (sym (found_holder g has r h e t)) in
-        record { sound = q.0; holds = q.1; within = within-one r (w (found_held g has r h e t).0) }
+        record {
+          held = holder-sound g w.rewrite.sector (holder_leaf w.holder) fair.sound (sym (found_holder g r o e w t));
+          within = within-one w.rewrite (z w.rewrite (found_held g r o e w t).0);
+        }
 
     -- in its extent, which ends below 2^64
-    writable_one : (has ≡ true → eqb (rewrite_refusal (ground_of v f fs shared rs) r) 0 ≡ true) → Writable r h
-    writable_one z t =
+    writable_one : ForSome r (λ (x : Rewrite). eqb (rewrite_refusal (ground_of v f fs shared rs) x) 0 ≡ true) → Writable o
+    writable_one z w t =
         let g : Ground = ground_of v f fs shared rs in
-        let d = found_held g has r h e t in
-        let i : InLeaf = holder_leaf h in
-        let q = holder-sound g r.sector i fair.sound (sym (found_holder g has r h e t)) in
-        let w = rewrite_sound g r i (eqb-true (rewrite_refusal g r) 0 (z d.0)) d.1 in
-        let n = window_says (i.item.extent_start + position_of r i) v.sector i.item.extent_start w.row.length w.inside in
-        (q.0, q.1, omega (arith, n.0))
+        let d = found_held g r o e w t in
+        let i : InLeaf = holder_leaf w.holder in
+        let q = holder-sound g w.rewrite.sector i fair.sound (sym (found_holder g r o e w t)) in
+        let k = rewrite_sound g w.rewrite i (eqb-true (rewrite_refusal g w.rewrite) 0 (z w.rewrite d.0)) d.1 in
+        let n = window_says (i.item.extent_start + position_of w.rewrite i) v.sector i.item.extent_start k.row.length k.inside in
+        (q, omega (arith, n.0))
 
 -- ---- both
 
@@ -244,23 +272,23 @@ module _ (v : Volume) (f : File) (c : RangeChange) (p : Parts) (list shared : Li
   pub ready : length shared ≡ length (items list) → v.generation + 1 < 2 ^ 64 → Ready v c p list
   ready l n =
       let fs : List Fields = items list in
-      let w = sides-every (rewrite_inside (ground_of v f fs shared rs) (change_of c f.size)) c.has_front c.has_back c.front c.back fair.rewrites in
+      let w = sides-every (rewrite_inside (ground_of v f fs shared rs) (change_of c f.size)) c.front c.back fair.rewrites in
       let e = leaves-items fs shared l in
       record {
         runs = kept-runs f.number fs (well_kept_lem f.number fs (rw e at fair.sound.kept)) (rw e at fair.sound.ranges);
         generation = n;
-        front = inside_one v f c fs shared rs fair c.has_front c.front p.front part.front w.0;
-        back = inside_one v f c fs shared rs fair c.has_back c.back p.back part.back w.1;
-        «new-front» = λ t. within-one v f c fs shared rs fair c.front (w.0 t);
-        «new-back» = λ t. within-one v f c fs shared rs fair c.back (w.1 t);
+        front = inside_one v f c fs shared rs fair c.front p.front part.front w.0;
+        back = inside_one v f c fs shared rs fair c.back p.back part.back w.1;
+        «new-front» = λ r t. within-one v f c fs shared rs fair r (w.0 r t);
+        «new-back» = λ r t. within-one v f c fs shared rs fair r (w.1 r t);
       }
 
   -- what the writes ask for
-  pub writable : stage (rewrite_refusal (ground_of v f (items list) shared rs)) (change_of c f.size).rewrites ≡ 0 → Writable c.front p.front × Writable c.back p.back
+  pub writable : stage (rewrite_refusal (ground_of v f (items list) shared rs)) (change_of c f.size).rewrites ≡ 0 → Writable p.front × Writable p.back
   writable z =
       let fs : List Fields = items list in
       let refusal : Rewrite → ℕ = rewrite_refusal (ground_of v f fs shared rs) in
-      let w = sides-every (λ (r : Rewrite). eqb (refusal r) 0) c.has_front c.has_back c.front c.back (stage-none refusal (change_of c f.size).rewrites z) in (
-        writable_one v f c fs shared rs fair c.has_front c.front p.front part.front w.0,
-        writable_one v f c fs shared rs fair c.has_back c.back p.back part.back w.1,
+      let w = sides-every (λ (r : Rewrite). eqb (refusal r) 0) c.front c.back (stage-none refusal (change_of c f.size).rewrites z) in (
+        writable_one v f c fs shared rs fair c.front p.front part.front w.0,
+        writable_one v f c fs shared rs fair c.back p.back part.back w.1,
       )

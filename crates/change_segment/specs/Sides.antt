@@ -1,9 +1,7 @@
 -- For the code only: the two sectors of a change, front and back: what each has of the plan's lists, if it is there.
-use Rattle.std.specs.Prelude.{Bool, true, cond, ◌&&◌, not, List, [], ◌∷◌, ◌++◌, map, ◌≡◌, ℕ, ◌+◌, ◌-◌, ◌<◌, ◌^◌, take, drop}
-use Rattle.records.specs.Select.{only, keep}
-use Rattle.item.specs.Items.{Fields, fields, regular_item}
-use Rattle.lists.specs.Lists.{range_sound}
-use Rattle.cut_def.specs.Mappings.{holds}
+use Rattle.std.specs.Prelude.{List, [], ◌∷◌, ◌++◌, map, Option, Some, None, option_to_list, is_some, cond, ℕ, ◌+◌, ◌-◌, take, drop}
+use Rattle.records.specs.Select.{keep}
+use Rattle.item.specs.Items.{Fields, regular_item}
 use Rattle.cut_def.specs.Pieces.{Piece, insert_all, cut_pieces, counted_bytes}
 use Rattle.cut_def.specs.Joins.{join_all}
 use Rattle.request.specs.declared.Volume.{Volume}
@@ -21,64 +19,69 @@ use Rattle.plan_def.specs.Plans.{Write}
 use Rattle.plan_def.specs.Places.{Wanted}
 use Rattle.change_def.specs.declared.Rewrite.{Rewrite}
 use Rattle.change_def.specs.declared.RangeChange.{RangeChange}
-use Rattle.change_def.specs.Rewrites.{Ground, new_generation, position_of, write_in_place}
-use Rattle.change_rewrites.specs.declared.Holder.{Holder}
-use Rattle.change_rewrites.specs.Raw.{holder_leaf}
+use Rattle.change_def.specs.Rewrites.{Ground, new_generation}
+use Rattle.change_rewrites.specs.declared.InPlace.{InPlace}
+use Rattle.change_rewrites.specs.Raw.{item_of, extent_of, write_of}
 use Rattle.change_segment.specs.declared.Parts.{Parts}
-use Rattle.change_segment.specs.Raw.{part_item, new_item}
+use Rattle.change_segment.specs.Raw.{new_item}
 
--- whether a side takes a new extent: it is rewritten, and not in place
-abbrev pub front_new : RangeChange → Parts → Bool
-front_new c p = c.has_front && not p.front.found
+-- a sector that takes a new extent: it is rewritten, and not in place
+abbrev pub anew : Option Rewrite → Option InPlace → Option Rewrite
+anew r None = r
+anew r (Some w) = None
 
-abbrev pub back_new : RangeChange → Parts → Bool
-back_new c p = c.has_back && not p.back.found
+abbrev pub front_new : RangeChange → Parts → Option Rewrite
+front_new c p = anew c.front p.front
+
+abbrev pub back_new : RangeChange → Parts → Option Rewrite
+back_new c p = anew c.back p.back
 
 -- one thing of each side, if it is there
-abbrev pub sides : {A : Type 0} → Bool → Bool → A → A → List A
-sides a b x y = only a x ++ only b y
+abbrev pub sides : {A B : Type 0} → Option A → Option A → (A → B) → (A → B) → List B
+sides a b f h = map f (option_to_list a) ++ map h (option_to_list b)
 
 -- a sector's new extent, its item and its write
 abbrev pub wanted_at : Ground → Rewrite → Wanted
 wanted_at g r = record { key = r.sector; length = g.sector; kind = 1 }
 
-abbrev pub new_at : Ground → Rewrite → ℕ → Fields
-new_at g r x = regular_item g.file r.sector (new_generation g) x g.sector
+abbrev pub new_at : Ground → ℕ → Rewrite → Fields
+new_at g x r = regular_item g.file r.sector (new_generation g) x g.sector
 
-abbrev pub write_at : Rewrite → ℕ → Write
-write_at r x = record { key = r.sector; at = x; first = r.first; end = r.end }
+abbrev pub write_at : ℕ → Rewrite → Write
+write_at x r = record { key = r.sector; at = x; first = r.first; end = r.end }
+
+-- how many sectors take new extents
+abbrev pub one_if : {A : Type 0} → Option A → ℕ
+one_if a = cond (is_some a) 1 0
+
+abbrev pub anew_count : RangeChange → Parts → ℕ
+anew_count c p = one_if (front_new c p) + one_if (back_new c p)
+
+-- the places of new extents
+abbrev pub places_at : RangeChange → Parts → ℕ → ℕ → List ℕ
+places_at c p x y = sides (front_new c p) (back_new c p) (λ (r : Rewrite). x) (λ (r : Rewrite). y)
 
 -- a plan's writes, those in place first
 abbrev pub writes_of : RangeChange → Parts → ℕ → ℕ → List Write
-writes_of c p x y =
-    sides p.front.found p.back.found (write_in_place c.front (holder_leaf p.front)) (write_in_place c.back (holder_leaf p.back))
-    ++ sides (front_new c p) (back_new c p) (write_at c.front x) (write_at c.back y)
+writes_of c p x y = sides p.front p.back write_of write_of ++ sides (front_new c p) (back_new c p) (write_at x) (write_at y)
 
--- a sector that is written in place goes to a byte of the volume that 64 bits can say
-abbrev pub Writable : Rewrite → Holder → Type 0
-Writable r h =
-    h.found ≡ true
-    → (range_sound (fields h.item) ≡ true) × (holds r.sector (fields h.item) ≡ true) × ((fields h.item).extent_start + position_of r (holder_leaf h) < 2 ^ 64)
+-- the sector of a write in place
+abbrev pub sector_of : InPlace → ℕ
+sector_of w = w.rewrite.sector
 
 -- the pieces after the cut, the writes in place and the joins, by the two sides
 abbrev pub joined_pieces : Volume → RangeChange → Parts → List Fields → List Piece
 joined_pieces v c p fs =
-    join_all (v.generation + 1) (sides p.front.found p.back.found c.front.sector c.back.sector)
-    (insert_all (sides p.front.found p.back.found (part_item v c.front p.front) (part_item v c.back p.back)) (cut_pieces c.lo c.hi fs))
+    join_all (v.generation + 1) (sides p.front p.back sector_of sector_of) (insert_all (sides p.front p.back (item_of v) (item_of v)) (cut_pieces c.lo c.hi fs))
 
 -- and with the new items, at their places
 abbrev pub after_pieces : Volume → File → RangeChange → Parts → ℕ → ℕ → List Fields → List Piece
-after_pieces v f c p x y fs = insert_all (sides (front_new c p) (back_new c p) (new_item v f c.front x) (new_item v f c.back y)) (joined_pieces v c p fs)
+after_pieces v f c p x y fs =
+    insert_all (sides (front_new c p) (back_new c p) (λ (r : Rewrite). new_item v f r x) (λ (r : Rewrite). new_item v f r y)) (joined_pieces v c p fs)
 
 -- what is cut, and the extents of the sectors written in place; 0: none
 abbrev pub cut_of : RangeChange → Parts → Cut
-cut_of c p =
-    record {
-      lo = c.lo;
-      hi = c.hi;
-      one = cond p.front.found (fields p.front.item).extent_start 0;
-      two = cond p.back.found (fields p.back.item).extent_start 0;
-    }
+cut_of c p = record { lo = c.lo; hi = c.hi; one = extent_of p.front; two = extent_of p.back }
 
 -- ---- lines of references: k is what is cut, s the segment that replaces records s .from up to s.to of fs
 

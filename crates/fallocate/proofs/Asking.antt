@@ -1,10 +1,12 @@
 -- What the code refuses, and asks of a change, is what the definitions say. Assumes nothing.
 use mathlib.Core.Path.{◌≡◌, refl, ap, ◌∙◌, sym}
 use mathlib.Core.Bool.{Bool, true, false, cond, ◌&&◌}
-use mathlib.Core.List.{List, ◌++◌, append-nil}
+use mathlib.Core.List.{List, [], ◌++◌, append-nil}
 use Prim.Native.Nat.{ℕ, ◌+◌, ◌/◌, ◌<◌, max}
 use lib.Dec.{eqb, leb, ltb}
 use lib.ListN.{length}
+use Rattle.std.specs.Prelude.{Option, None, option_to_list}
+use Rattle.std.specs.Bool.{then_some}
 use Rattle.records.specs.Select.{only}
 use Rattle.records.specs.Stages.{whenever, first, stage}
 use Rattle.records.proofs.Loops.{rest}
@@ -26,19 +28,11 @@ use Rattle.fallocate.proofs.Sweep.{holes_swept}
 -- ---- the structs
 
 pub end_is :
-    (size s stop d lo hi : ℕ) (b : Bool)
+    (size s stop d lo hi : ℕ) (b : Bool) (front : Option Rewrite)
     → b ≡ end_rewritten s size stop → d ≡ round_down s size → lo ≡ cond b d 0 → hi ≡ cond b (d + s) 0
-    → ◌≡◌ {A = RangeChange}
-    (record {
-      lo = lo;
-      hi = hi;
-      has_front = b;
-      front = record { sector = d; first = size; end = d + s };
-      has_back = false;
-      back = record { sector = 0; first = 0; end = 0 };
-    })
-    (end_change size s stop)
-end_is size s stop d lo hi b pb pd pl ph = rw (pl, ph, pb, pd) refl
+    → front ≡ then_some b (record { sector = d; first = size; end = d + s })
+    → ◌≡◌ {A = RangeChange} (record { lo = lo; hi = hi; front = front; back = None }) (end_change size s stop)
+end_is size s stop d lo hi b front pb pd pl ph pf = rw (pl, ph, pf, pb, pd) refl
 
 pub fill_is :
     (keep : Bool) (size s offset stop a b m n : ℕ)
@@ -50,17 +44,18 @@ fill_is keep size s offset stop a b m n pa pb pm pn = rw (pn, pm, pa, pb) refl
 pub filled_is : (keep : Bool) (size sector offset stop : ℕ) → 0 < sector → offset < stop → (fs : List Fields) → Runs 0 fs
     → filled_of (end_change size sector stop) (fill_of keep size sector offset stop) fs ≡ fallocate_change keep fs size sector offset stop
 filled_is keep size sector offset stop pos some fs r =
-    ap (with (only t w ++ only false z)) (sym (holes_swept size sector offset stop pos some fs r))
-    ∙ ap (λ (ws : List Rewrite). with ws (fallocate_change keep fs size sector offset stop).holes) (append-nil (only t w))
+    ap (with (option_to_list (then_some t w) ++ [])) (sym (holes_swept size sector offset stop pos some fs r))
+    ∙ ap (λ (ws : List Rewrite). with ws (fallocate_change keep fs size sector offset stop).holes) (append-nil (option_to_list (then_some t w)) ∙ one_or_none t w)
   where
     t : Bool
     t = end_rewritten sector size stop
 
     w : Rewrite
-    w = (end_change size sector stop).front
+    w = record { sector = round_down sector size; first = size; end = round_down sector size + sector }
 
-    z : Rewrite
-    z = (end_change size sector stop).back
+    one_or_none : (b : Bool) (r : Rewrite) → option_to_list (then_some b r) ≡ only b r
+    one_or_none true r = refl
+    one_or_none false r = refl
 
     with : List Rewrite → List Stretch → Change
     with ws hs = record { lo = end_sector size sector stop; hi = end_stop size sector stop; rewrites = ws; holes = hs; size = new_size keep size stop }

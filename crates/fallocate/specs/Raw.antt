@@ -1,5 +1,6 @@
 -- For the code only: what the structs and private functions of this crate say, in the terms of the definitions.
-use Rattle.std.specs.Prelude.{Bool, false, cond, List, ℕ, ◌+◌}
+use Rattle.std.specs.Prelude.{Bool, None, cond, List, ℕ, ◌+◌}
+use Rattle.std.specs.Bool.{then_some}
 use Rattle.records.specs.Stages.{first}
 use Rattle.item.specs.Items.{items}
 use Rattle.table.specs.Rows.{rows}
@@ -18,10 +19,8 @@ end_change size sector stop =
     record {
       lo = cond (end_rewritten sector size stop) (round_down sector size) 0;
       hi = cond (end_rewritten sector size stop) (round_down sector size + sector) 0;
-      has_front = end_rewritten sector size stop;
-      front = record { sector = round_down sector size; first = size; end = round_down sector size + sector };
-      has_back = false;
-      back = record { sector = 0; first = 0; end = 0 };
+      front = then_some (end_rewritten sector size stop) (record { sector = round_down sector size; first = size; end = round_down sector size + sector });
+      back = None;
     }
 
 -- the range rounded out, and the new size

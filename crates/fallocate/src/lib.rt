@@ -41,18 +41,12 @@ fn end_change(size: u64, sector: u64, stop: u64) -> RangeChange
     RangeChange {
         lo: pick(rewritten, start, 0),
         hi: pick(rewritten, end, 0),
-        has_front: rewritten,
-        front: Rewrite {
+        front: rewritten.then_some(Rewrite {
             sector: start,
             first: size,
             end,
-        },
-        has_back: false,
-        back: Rewrite {
-            sector: 0,
-            first: 0,
-            end: 0,
-        },
+        }),
+        back: None,
     }
 }
 

@@ -8,6 +8,9 @@ use native.Mathlib.Omega.{arith}
 use lib.Dec.{eqb, ltb}
 use lib.ListN.{length}
 use borrow.Author.Tests.{ltb-true}
+use Rattle.std.specs.Prelude.{Option, Some, None, is_some, option_to_list}
+use Rattle.std.specs.Bool.{then_some}
+use Rattle.records.specs.Select.{only}
 use Rattle.records.proofs.Tests.{both_right}
 use Rattle.item.specs.Items.{Fields}
 use Rattle.request.specs.Lent.{sector_sound}
@@ -39,14 +42,15 @@ fitting s x h l =
     record { positive = b.0; up = omega arith; next = omega (arith, down_below s b.0 x) }
 
 -- whether a search finds an item
-pub found_held : (o : ℕ) (fs : List Fields) (shared : List ℕ) (h : Holder) → length shared ≡ length fs → holder_in h ≡ holder_of o (in_leaves fs shared) → h.found ≡ held_by (holder o fs)
+pub found_held :
+    (o : ℕ) (fs : List Fields) (shared : List ℕ) (h : Option Holder) → length shared ≡ length fs → holder_in h ≡ holder_of o (in_leaves fs shared) → is_some h ≡ held_by (holder o fs)
 found_held o fs shared h l e =
     let p : holder o fs ≡ when_held (holder_in h) none (λ (q : InLeaf). some q.item) = sym (ap (holder o) (leaves-items fs shared l)) ∙ holder-item o (in_leaves fs shared) ∙ rw (← e) refl in
-    rw p (go h.found)
+    rw p (go h)
   where
-    go : (b : Bool) → b ≡ held_by (when_held (cond b (some (holder_leaf h)) none) none (λ (q : InLeaf). some q.item))
-    go true = refl
-    go false = refl
+    go : (h : Option Holder) → is_some h ≡ held_by (when_held (holder_in h) none (λ (q : InLeaf). some q.item))
+    go (Some h) = refl
+    go None = refl
 
 -- or, where it is not asked, none
 pub asked-held : (asked b h : Bool) → asked ≡ true → b ≡ h → b ≡ (asked && h)
@@ -55,41 +59,37 @@ asked-held asked b h t e = rw t e
 pub unasked_held : (asked h : Bool) → asked ≡ false → false ≡ (asked && h)
 unasked_held asked h t = rw t refl
 
+-- one sector, if it is rewritten
+one_or_none : (b : Bool) (r : Rewrite) → option_to_list (then_some b r) ≡ only b r
+one_or_none true r = refl
+one_or_none false r = refl
+
 -- inside one sector
 pub one-sector : (s x stop d e : ℕ) (b : Bool) → d ≡ round_down s x → e ≡ round_down s (stop - 1) → b ≡ (eqb d e && ltb (stop - x) s) → b ≡ in_one_sector s x stop
 one-sector s x stop d e b pd pe pb = rw (pb, pd, pe) refl
 
 module _ (size s x stop d up : ℕ) (pd : d ≡ round_down s x) (pu : up ≡ round_up s size) where
-  pub within-is : (hi : ℕ) (w : Rewrite) → hi ≡ cond (ltb x up) (d + s) d
-      → change_of (record { lo = d; hi = hi; has_front = ltb x up; front = record { sector = d; first = x; end = stop }; has_back = false; back = w }) size ≡ within_sector size s x stop
-  within-is hi w ph = rw (ph, pd, pu) (go (ltb x (round_up s size)))
+  pub within-is : (hi : ℕ) (front : Option Rewrite) → hi ≡ cond (ltb x up) (d + s) d → front ≡ then_some (ltb x up) (record { sector = d; first = x; end = stop })
+      → change_of (record { lo = d; hi = hi; front = front; back = None }) size ≡ within_sector size s x stop
+  within-is hi front ph pf = rw (ph, pf, pd, pu) (go (ltb x (round_up s size)))
     where
       go : (b : Bool)
-          → change_of (record { lo = round_down s x; hi = cond b (round_down s x + s) (round_down s x); has_front = b; front = record { sector = round_down s x; first = x; end = stop }; has_back = false; back = w }) size
+          → change_of (record { lo = round_down s x; hi = cond b (round_down s x + s) (round_down s x); front = then_some b (record { sector = round_down s x; first = x; end = stop }); back = None }) size
           ≡ cond b
           (record { lo = round_down s x; hi = round_down s x + s; rewrites = record { sector = round_down s x; first = x; end = stop } ∷ []; holes = []; size = size })
           (record { lo = round_down s x; hi = round_down s x; rewrites = []; holes = []; size = size })
       go true = refl
       go false = refl
 
-  pub across_is : (fs : List Fields) (last up' lo hi : ℕ) (front back partly : Bool)
+  pub across_is : (fs : List Fields) (last up' lo hi : ℕ) (front back partly : Bool) (front' back' : Option Rewrite)
       → last ≡ round_down s stop → up' ≡ round_up s x
       → front ≡ (not (eqb d x) && ltb x up) → partly ≡ (not (eqb last stop) && ltb stop up) → back ≡ (partly && held_by (holder last fs))
       → lo ≡ cond front d up' → hi ≡ cond back (last + s) last
-      → change_of
-      (record {
-        lo = lo;
-        hi = hi;
-        has_front = front;
-        front = record { sector = d; first = x; end = d + s };
-        has_back = back;
-        back = record { sector = last; first = last; end = stop };
-      })
-      size
-      ≡ across_sectors fs size s x stop
-  across_is fs last up' lo hi front back partly pl pv pf pp pb po pt =
+      → front' ≡ then_some front (record { sector = d; first = x; end = d + s }) → back' ≡ then_some back (record { sector = last; first = last; end = stop })
+      → change_of (record { lo = lo; hi = hi; front = front'; back = back' }) size ≡ across_sectors fs size s x stop
+  across_is fs last up' lo hi front back partly front' back' pl pv pf pp pb po pt pq pr =
       let e : back ≡ (not (eqb last stop) && (ltb stop up && held_by (holder last fs))) = pb ∙ ap (λ (t : Bool). t && held_by (holder last fs)) pp ∙ and_assoc (not (eqb last stop)) (ltb stop up) (held_by (holder last fs)) in
-      rw (po, pt, pf, e, pl, pv, pd, pu) refl
+      rw (pq, pr, one_or_none, one_or_none, po, pt, pf, e, pl, pv, pd, pu) refl
 
 -- the change, by whether the range lies inside one sector
 pub change_is : (fs : List Fields) (size s x stop : ℕ) (b t : Bool) (c : Change) → b ≡ in_one_sector s x stop → b ≡ t

@@ -55,17 +55,6 @@ fn in_one_sector(sector: u64, start: u64, stop: u64) -> bool
     )
 }
 
-// A sector that is not rewritten.
-fn none() -> Rewrite
-    ensures { result ≡ record { sector = 0; first = 0; end = 0 } }
-{
-    Rewrite {
-        sector: 0,
-        first: 0,
-        end: 0,
-    }
-}
-
 // What is cut and rewritten of a range inside one sector; the list has no say in it.
 fn within_sector(size: u64, sector: u64, start: u64, stop: u64) -> RangeChange
     requires { (sector_sound sector ≡ true) × (size < 2 ^ 63) × (start < 2 ^ 63) }
@@ -76,14 +65,12 @@ fn within_sector(size: u64, sector: u64, start: u64, stop: u64) -> RangeChange
     RangeChange {
         lo: first,
         hi: records::pick(below, first + sector, first),
-        has_front: below,
-        front: Rewrite {
+        front: below.then_some(Rewrite {
             sector: first,
             first: start,
             end: stop,
-        },
-        has_back: false,
-        back: none(),
+        }),
+        back: None,
     }
 }
 
@@ -95,7 +82,7 @@ fn held_if(asked: bool, o: u64, list: &[u8], shared: &[u8]) -> bool
     if !asked {
         return false;
     }
-    change_rewrites::holding_item(o, list, shared).found
+    change_rewrites::holding_item(o, list, shared).is_some()
 }
 
 // What is cut and rewritten of any other range.
@@ -118,18 +105,16 @@ fn across_sectors(
     RangeChange {
         lo: records::pick(has_front, first, change_def::round_up(sector, start)),
         hi: records::pick(has_back, last + sector, last),
-        has_front,
-        front: Rewrite {
+        front: has_front.then_some(Rewrite {
             sector: first,
             first: start,
             end: first + sector,
-        },
-        has_back,
-        back: Rewrite {
+        }),
+        back: has_back.then_some(Rewrite {
             sector: last,
             first: last,
             end: stop,
-        },
+        }),
     }
 }
 

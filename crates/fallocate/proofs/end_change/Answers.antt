@@ -13,4 +13,4 @@ pub overflow_add-end : goal.overflow_add-end
 overflow_add-end c = let a = c.args in let e = c.round_down-start.ensures in omega (arith, e, (fitting a.sector a.size c.requires.0 c.requires.1).next)
 
 pub returns : goal.returns
-returns c = let a = c.args in end_is a.size a.sector a.stop _ _ _ _ c.end_rewritten-rewritten.ensures c.round_down-start.ensures c.pick.ensures c.pick-2.ensures
+returns c = let a = c.args in end_is a.size a.sector a.stop _ _ _ _ _ c.end_rewritten-rewritten.ensures c.round_down-start.ensures c.pick.ensures c.pick-2.ensures c.then_some.ensures

@@ -22,8 +22,8 @@ round_up-requires c = let a = c.args in let p = c.requires in let l : a.start < 
 pub overflow_add-last : goal.overflow_add-last
 overflow_add-last c = let a = c.args in let p = c.requires in let e = c.round_down-last.ensures in omega (arith, e, (fitting a.sector a.stop p.0 p.3).next)
 
-pub overflow_add-result : goal.overflow_add-result
-overflow_add-result c = let a = c.args in let p = c.requires in let e = c.round_down-first.ensures in let l : a.start < 2 ^ 63 = omega arith in omega (arith, e, (fitting a.sector a.start p.0 l).next)
+pub overflow_add-first : goal.overflow_add-first
+overflow_add-first c = let a = c.args in let p = c.requires in let e = c.round_down-first.ensures in let l : a.start < 2 ^ 63 = omega arith in omega (arith, e, (fitting a.sector a.start p.0 l).next)
 
 pub returns : goal.returns
-returns c = let a = c.args in across_is a.size a.sector a.start a.stop _ _ c.round_down-first.ensures c.round_up-limit.ensures (items a.list.now) _ _ _ _ _ _ _ c.round_down-last.ensures c.round_up.ensures c.both-has_front.ensures c.both.ensures c.held_if-has_back.ensures c.pick.ensures c.pick-2.ensures
+returns c = let a = c.args in across_is a.size a.sector a.start a.stop _ _ c.round_down-first.ensures c.round_up-limit.ensures (items a.list.now) _ _ _ _ _ _ _ _ _ c.round_down-last.ensures c.round_up.ensures c.both-has_front.ensures c.both.ensures c.held_if-has_back.ensures c.pick.ensures c.pick-2.ensures c.then_some.ensures c.then_some-2.ensures

@@ -12,4 +12,4 @@ pub overflow_add-first : goal.overflow_add-first
 overflow_add-first c = let a = c.args in let e = c.round_down-first.ensures in omega (arith, e, (fitting a.sector a.start c.requires.0 c.requires.2).next)
 
 pub returns : goal.returns
-returns c = let a = c.args in within-is a.size a.sector a.start a.stop _ _ c.round_down-first.ensures c.round_up.ensures _ c.none.result c.pick.ensures
+returns c = let a = c.args in within-is a.size a.sector a.start a.stop _ _ c.round_down-first.ensures c.round_up.ensures _ _ c.pick.ensures c.then_some.ensures
