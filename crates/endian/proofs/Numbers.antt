@@ -6,8 +6,8 @@ use native.Mathlib.Omega.{arith}
 use native.Mathlib.Nat.{add-suc, add-zero}
 use lib.ListN.{length, get_or, take, drop}
 use lib.Seq.{take-nil, drop-drop, get_or-take}
+use Rattle.std.specs.Int.{w16, w64, from_le_bytes}
 use Rattle.endian.specs.Le.{le, num, enc, room, Bytes}
-use Rattle.endian.specs.Raw.{sum8}
 
 pub length-enc : (w v : ℕ) → length (enc w v) ≡ w
 unfolding enc
@@ -59,17 +59,9 @@ pub num-drop : (w at k : ℕ) (s : List ℕ) → num w at (drop k s) ≡ num w (
 unfolding num
 num-drop w at k s = rw drop-drop refl
 
--- the widths in use, byte by byte, as the code sums them
-pub num_1 : (at : ℕ) (s : List ℕ) → num 1 at s ≡ get_or s at 0
+-- the byte at a place is its number
+pub num_1 : (at : ℕ) (s : List ℕ) → get_or s at 0 ≡ num 1 at s
 num_1 at s = omega (arith, num-suc 0 at s, num-zero (suc at) s)
-
-pub num_2 : (at : ℕ) (s : List ℕ) → num 2 at s ≡ get_or s at 0 + 256 * get_or s (at + 1) 0
-num_2 at s = let e = num-step 1 at 0 s in omega (arith, rw add-zero at e, num-step 0 at 1 s, num-zero (at + 2) s)
-
-pub num_8 : (at : ℕ) (s : List ℕ) → num 8 at s ≡ sum8 s at
-num_8 at s =
-    let e = num-step 7 at 0 s in
-    omega (arith, rw add-zero at e, num-step 6 at 1 s, num-step 5 at 2 s, num-step 4 at 3 s, num-step 3 at 4 s, num-step 2 at 5 s, num-step 1 at 6 s, num-step 0 at 7 s, num-zero (at + 8) s)
 
 -- a number depends on its own bytes only
 pub num_ext : (w at : ℕ) (s t : List ℕ) → ((i : ℕ) → at ≤ i → i < at + w → get_or s i 0 ≡ get_or t i 0) → num w at s ≡ num w at t
@@ -79,6 +71,22 @@ num_ext (suc w) at s t h =
 
 pub num-take : (w at n : ℕ) (s : List ℕ) → at + w ≤ n → num w at (take n s) ≡ num w at s
 num-take w at n s h = num_ext w at (take n s) s (λ i p q. get_or-take n s i 0 (omega arith))
+
+-- the w bytes from `at` have the number that stands there
+num-own : (w at : ℕ) (s : List ℕ) → num w at s ≡ num w 0 (take w (drop at s))
+num-own w at s = sym (num-take w 0 w (drop at s) (omega arith) ∙ num-drop w 0 at s ∙ rw add-zero refl)
+
+-- the widths in use, as the library sums them
+pub num_2 : (at : ℕ) (s : List ℕ) → from_le_bytes w16 (take 2 (drop at s)) ≡ num 2 at s
+num_2 at s =
+    let t : List ℕ = take 2 (drop at s) in
+    let e = num-step 1 0 0 t in
+    omega (arith, num-own 2 at s, e, num-step 0 0 1 t, num-zero 2 t)
+
+pub num_8 : (at : ℕ) (s : List ℕ) → from_le_bytes w64 (take 8 (drop at s)) ≡ num 8 at s
+num_8 at s =
+    let t : List ℕ = take 8 (drop at s) in
+    omega (arith, num-own 8 at s, num-step 7 0 0 t, num-step 6 0 1 t, num-step 5 0 2 t, num-step 4 0 3 t, num-step 3 0 4 t, num-step 2 0 5 t, num-step 1 0 6 t, num-step 0 0 7 t, num-zero 8 t)
 
 -- a number in bytes fits its width
 pub num-room : (w at : ℕ) (s : List ℕ) → Bytes s → num w at s < room w

@@ -4,7 +4,7 @@ use mathlib.Core.List.{List, [], ◌∷◌, ◌++◌, append_assoc, append-nil}
 use Prim.Native.Nat.{ℕ, suc, ◌+◌, ◌-◌, ◌/◌, ◌%◌, ◌<◌, ◌≤◌}
 use native.Mathlib.Omega.{arith}
 use native.Mathlib.Numerals.{add-one}
-use native.Mathlib.Nat.{add-zero, zero-add, add_assoc}
+use native.Mathlib.Nat.{add-zero, zero-add, add_assoc, sub-zero}
 use lib.ListN.{length, get_or, take, drop, set, length-append, length-drop, length-take, take-append-drop, get_or-append, drop_of_length-le}
 use lib.Seq.{drop-cons, drop-drop, take_at, drop_at, drop-set-lt, take-suc-set, get_or-take, get_or-drop, get_or-append-add}
 use Rattle.endian.specs.Le.{le, num, enc, put, room}
@@ -41,16 +41,33 @@ pub put_whole : (vs d : List ℕ) → length d ≤ length vs → put vs 0 d ≡ 
 unfolding put
 put_whole vs d h = rw (zero-add, drop_of_length-le d, append-nil vs) refl
 
--- ---- a turn of a loop that writes: what is left to write, over what the turn stored
+-- a part of a list that was written whole, between what stands before and behind it
+pub put_part : (vs : List ℕ) (at k : ℕ) (d : List ℕ) → length vs ≡ k → take at d ++ (vs ++ drop k (drop at d)) ≡ put vs at d
+unfolding put
+put_part vs at k d h = rw (drop-drop, h, append_assoc (take at d) vs (drop (at + k) d)) refl
+
+-- ---- a loop that writes a number: what is left of it, over what the turns stored
 
 enc-suc : (w v : ℕ) → enc (suc w) v ≡ v % 256 ∷ enc w (v / 256)
 unfolding enc
 enc-suc w v = refl
 
-pub enc-turn : (w i v at : ℕ) (d : List ℕ) → i < w → at + i < length d → put (enc (w - (i + 1)) (v / 256)) (at + (i + 1)) (set d (at + i) (v % 256)) ≡ put (enc (w - i) v) (at + i) d
-enc-turn w i v at d h l =
+-- from the first byte on, over a list of w bytes
+pub enc_all : (w v : ℕ) (d : List ℕ) → length d ≡ w → put (enc (w - 0) v) 0 d ≡ enc w v
+enc_all w v d h = rw sub-zero (put_whole (enc w v) d (omega (arith, length-enc w v)))
+
+pub enc-turn : (w i v : ℕ) (d : List ℕ) → i < w → length d ≡ w → put (enc (w - (i + 1)) (v / 256)) (i + 1) (set d i (v % 256)) ≡ put (enc (w - i) v) i d
+enc-turn w i v d h l =
     let e : w - i ≡ suc (w - (i + 1)) = omega arith in
-    rw (e, enc-suc, put_cons, add_assoc) refl
+    rw (e, enc-suc, put_cons (v % 256) (enc (w - (i + 1)) (v / 256)) i d (omega arith)) refl
+
+pub enc-none : (w i v : ℕ) (d : List ℕ) → w ≤ i → d ≡ put (enc (w - i) v) i d
+unfolding enc
+enc-none w i v d h =
+    let e : w - i ≡ 0 = omega arith in
+    rw (e, put_nil) refl
+
+-- ---- a loop that copies
 
 pub copy_turn :
     (n i from at : ℕ) (s d : List ℕ)
@@ -61,10 +78,6 @@ pub copy_turn :
 copy_turn n i from at s d h f l =
     let e : n - i ≡ suc (n - (i + 1)) = omega arith in
     rw (e, drop-cons s (from + i) 0 f, put_cons, add_assoc, ← add_assoc from i 1, add-one (from + i)) refl
-
-pub enc-none : (v at : ℕ) (d : List ℕ) (n : ℕ) → n ≡ 0 → d ≡ put (enc n v) at d
-unfolding enc
-enc-none v at d n e = rw (e, put_nil) refl
 
 pub take_none : (s : List ℕ) (at : ℕ) (d : List ℕ) (n : ℕ) → n ≡ 0 → d ≡ put (take n s) at d
 take_none s at d n e = rw (e, put_nil) refl

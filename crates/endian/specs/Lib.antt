@@ -1,2 +1,1 @@
 pub mod Le
-pub mod Raw

@@ -6,7 +6,7 @@ use Rattle.endian.proofs.Puts.{put-put, length-put}
 use Rattle.endian.proofs.Fields.{dec, encs, sum, Fit, dec_encs, encs_dec, dec-put, place, dec_take, dec_drop, place_le, bytes_take, bytes_drop}
 use Rattle.item.specs.declared.Item.{Item}
 use Rattle.item.specs.Items.{Fields, fields, item_of, decode, encode, Sound}
-use Rattle.item.specs.Raw.{RawItem, written}
+use Rattle.item.specs.Raw.{written}
 
 -- the widths of the data's fields, and of a record's
 abbrev pub data_widths : List ℕ
@@ -130,11 +130,18 @@ decode-sound s b =
       length = num-room 8 45 d bd;
     }
 
-pub raw_item : (r : Item) (s : List ℕ) (at : ℕ) → RawItem r s at → r ≡ item_of (drop at s)
+-- an item whose parts are read by their places in a list is the item there
+pub item_read :
+    (r : Item) (s : List ℕ) (at : ℕ)
+    → r.file ≡ num 8 at s
+    → r.key_type ≡ num 1 (at + 8) s
+    → r.key ≡ num 8 (at + 9) s
+    → r.«data» ≡ take 53 (drop (at + 17) s)
+    → r ≡ item_of (drop at s)
 unfolding item_of
-raw_item r s at h =
+item_read r s at f t k d =
     let e : r ≡ record { file = num 8 at s; key_type = num 1 (at + 8) s; key = num 8 (at + 9) s; «data» = take 53 (drop (at + 17) s) } =
-    λ i. record { file = h.file i; key_type = h.key_type i; key = h.key i; «data» = h.«data» i } in
+    λ i. record { file = f i; key_type = t i; key = k i; «data» = d i } in
     e ∙ simp (num-drop, drop-drop, add-zero)
 
 -- a key's bytes and the data are an item's bytes

@@ -1,18 +1,11 @@
 -- For the code only: what the private functions do to an item's bytes. They unfold everywhere, so that their callers are proved unasked.
-use Rattle.std.specs.Prelude.{◌≡◌, ℕ, ◌+◌, List, take, drop, replicate}
-use Rattle.endian.specs.Le.{num, enc, put}
+use Rattle.std.specs.Prelude.{ℕ, replicate}
+use Rattle.endian.specs.Le.{enc, put}
 use Rattle.item.specs.declared.Item.{Item}
 
 -- w bytes of v over the data, from `at`
 abbrev pub written : Item → ℕ → ℕ → ℕ → Item
 written i at w v = record { file = i.file; key_type = i.key_type; key = i.key; «data» = put (enc w v) at i.«data» }
-
--- an item's parts by their places in a list
-pub record RawItem (r : Item) (s : List ℕ) (at : ℕ) : Type 0 where
-  pub file : r.file ≡ num 8 at s
-  pub key_type : r.key_type ≡ num 1 (at + 8) s
-  pub key : r.key ≡ num 8 (at + 9) s
-  pub «data» : r.«data» ≡ take 53 (drop (at + 17) s)
 
 -- an item whose data are zeros
 abbrev pub blank : ℕ → ℕ → Item

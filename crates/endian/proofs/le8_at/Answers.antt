@@ -1,6 +1,5 @@
-use mathlib.Core.Path.{sym}
 use Rattle.endian.proofs.Numbers.{num_1}
 use Rattle.endian.proofs.le8_at.Goals as goal
 
 pub returns : goal.returns
-returns c = sym (num_1 _ _)
+returns c = num_1 _ _

@@ -1,18 +1,20 @@
-use mathlib.Core.Path.{◌∙◌, refl}
-use native.Mathlib.Nat.{sub-zero, add-zero}
-use lib.ListN.{length-set}
-use Rattle.endian.proofs.Puts.{enc-turn, enc-none}
-use native.Mathlib.Omega.{arith}
+use Rattle.std.proofs.Common.{◌≡◌, length, ◌∙◌, arith, length-take, length-drop}
+use Rattle.endian.specs.Le.{enc}
+use Rattle.endian.proofs.Numbers.{length-enc}
+use Rattle.endian.proofs.Puts.{put_part, enc_all, enc-turn, enc-none}
 use Rattle.endian.proofs.put_num.Goals as goal
 
-pub loop-i-init : goal.loop-i-init
-loop-i-init c = (omega arith, refl, simp (sub-zero, add-zero))
+pub loop-byte-init : goal.loop-byte-init
+loop-byte-init c = enc_all _ _ _ (simp (length-take, length-drop) (omega arith))
 
-pub loop-i-preserved : goal.loop-i-preserved
-loop-i-preserved c = (omega arith, simp length-set (omega arith), enc-turn _ _ _ _ _ (omega arith) (omega arith) ∙ c.loop-i.invariant.2)
-
-pub shape_of-out : goal.shape_of-out
-shape_of-out c = c.loop-i.invariant.1
+pub loop-byte-preserved : goal.loop-byte-preserved
+loop-byte-preserved c = let l = c.loop-byte in
+    let w : length l.byte-items ≡ c.args.w = omega (arith, simp (length-take, length-drop) at l.auto.byte-items) in
+    enc-turn _ l.byte-index l.rest l.byte-items (omega arith) w ∙ l.invariant
 
 pub returns : goal.returns
-returns c = enc-none _ _ _ _ (omega arith) ∙ c.loop-i.invariant.2
+returns c = let a = c.args in
+    let l = c.loop-byte in
+    let w : length l.byte-items ≡ a.w = omega (arith, simp (length-take, length-drop) at l.auto.byte-items) in
+    let e : l.byte-items ≡ enc a.w a.v = enc-none a.w l.byte-index l.rest l.byte-items (omega arith) ∙ l.invariant in
+    rw e (put_part (enc a.w a.v) a.at _ a.out.now (omega (arith, length-enc a.w a.v)))

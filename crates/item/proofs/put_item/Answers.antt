@@ -1,11 +1,7 @@
-use Rattle.std.proofs.Common.{◌≡◌, length, get_or, arith, w8, Fits, rules}
+use Rattle.std.proofs.Common.{◌≡◌, length, get_or, w8, Fits, rules}
 use Rattle.endian.specs.Le.{Bytes}
 use Rattle.item.proofs.Runs.{put_item}
 use Rattle.item.proofs.put_item.Goals as goal
-
-pub copy-requires : goal.copy-requires
-copy-requires c = let h : length c.args.item.«data» ≡ 53 = search rules in
-    (omega arith, search rules)
 
 pub returns : goal.returns
 returns c = let h : length c.args.item.«data» ≡ 53 = search rules in

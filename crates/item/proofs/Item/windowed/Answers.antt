@@ -6,5 +6,5 @@ pub returns : goal.returns
 returns c = let a = c.args in
     let h : length a.self.«data» ≡ 53 = search rules in
     let p = with_position a.self _ _ a.position (reads_self a.self h) (search rules) c.with_num.ensures in
-    let l = with_length _ c.with_num-out.result _ a.length p (search rules) c.with_num-out.ensures in
-    with_key c.with_num-out.result _ a.file a.key l
+    let l = with_length _ c.with_num-moved.result _ a.length p (search rules) c.with_num-moved.ensures in
+    with_key c.with_num-moved.result _ a.file a.key l
