@@ -2,7 +2,7 @@
 use mathlib.Core.Path.{◌≡◌, refl, ap, ◌∙◌, sym}
 use mathlib.Core.Bool.{Bool, true, false, cond, ◌||◌}
 use mathlib.Core.List.{List, [], ◌∷◌}
-use Prim.Native.Nat.{ℕ, ◌+◌, ◌*◌, ◌/◌, ◌^◌, ◌≤◌, ◌<◌}
+use Prim.Native.Nat.{ℕ, zero, suc, ◌+◌, ◌*◌, ◌/◌, ◌^◌, ◌≤◌, ◌<◌}
 use native.Mathlib.Omega.{arith}
 use native.Mathlib.Nat.{add-zero}
 use native.Mathlib.Decide.{ℕ_discrete, dec_lt}
@@ -10,7 +10,12 @@ use lib.Dec.{eqb}
 use lib.ListN.{length, get_or, drop, set}
 use lib.Seq.{get_or-drop, get_or-set_same, get_or-set_other}
 use borrow.Author.Tests.{eq-eqb, ne_eqb}
-use Rattle.std.specs.Prelude.{Some, None}
+use Rattle.std.specs.Simd.{first_chunks}
+use Rattle.std.specs.Result.{result_and}
+use Rattle.std.specs.Prelude.{Some, None, Result, Ok, Err}
+use Rattle.records.specs.declared.refusal.Refusal.{Refusal}
+use Rattle.records.specs.declared.refusal.Refusal.TheVariants.{Broken, NotKept, Table, Sector, Empty, TooFar, Inline, Kind, Encoded, Hole, PastSize, NoSpace, Generation, NoRow, Keyed, Nodatacow, Window, ReadElsewhere, Start, End, Offset, Length, Partial, Overlap, Growth, Place, Room}
+use Rattle.records.specs.Refusals.{number, why}
 use Rattle.records.specs.Select.{any, count}
 use Rattle.records.specs.Stages.{first, stage}
 use Rattle.records.proofs.Loops.{records-length, records_cons, records_nil}
@@ -76,6 +81,56 @@ module _ (rs : List Row) (kept : table_kept rs ≡ true) (start : ℕ) where
 
 -- ---- the loops
 
+-- the pair that a turn takes, and where it starts
+pub pair-start : (s : List ℕ) (ps : List (List ℕ)) (i : ℕ) → ps ≡ first_chunks 2 (length s / 2) s → i < length s / 2 → get_or (get_or ps i []) 0 0 ≡ get_or s (i * 2) 0
+pair-start s ps i e h = ap (λ (l : List (List ℕ)). get_or (get_or l i []) 0 0) e ∙ go (length s / 2) s i h (omega arith)
+  where
+    go : (n : ℕ) (t : List ℕ) (k : ℕ) → k < n → n * 2 ≤ length t → get_or (get_or (first_chunks 2 n t) k []) 0 0 ≡ get_or t (k * 2) 0
+    go zero t k h l = absurd (omega arith)
+    go (suc n) [] k h l = absurd (omega arith)
+    go (suc n) (x ∷ []) k h l = absurd (omega arith)
+    go (suc n) (x ∷ (y ∷ t)) zero h l = refl
+    go (suc n) (x ∷ (y ∷ t)) (suc k) h l = let m : suc k * 2 ≡ suc (suc (k * 2)) = omega arith in rw m (go n t k (omega arith) (omega arith))
+
+-- the first refusal of two stages
+given : (e : Refusal) (n : ℕ) → first (number e) n ≡ number e
+unfolding first
+given e n =
+    elim e as (λ (v : Refusal). first (number v) n ≡ number v) [
+      | Broken ↦ refl
+      | NotKept ↦ refl
+      | Table ↦ refl
+      | Sector ↦ refl
+      | Empty ↦ refl
+      | TooFar ↦ refl
+      | Inline ↦ refl
+      | Kind ↦ refl
+      | Encoded ↦ refl
+      | Hole ↦ refl
+      | PastSize ↦ refl
+      | NoSpace ↦ refl
+      | Generation ↦ refl
+      | NoRow ↦ refl
+      | Keyed ↦ refl
+      | Nodatacow ↦ refl
+      | Window ↦ refl
+      | ReadElsewhere ↦ refl
+      | Start ↦ refl
+      | End ↦ refl
+      | Offset ↦ refl
+      | Length ↦ refl
+      | Partial ↦ refl
+      | Overlap ↦ refl
+      | Growth ↦ refl
+      | Place ↦ refl
+      | Room ↦ refl
+    ]
+
+pub why_and : {A B : Type 0} (a : Result A Refusal) (b : Result B Refusal) → why (result_and a b) ≡ first (why a) (why b)
+unfolding first
+why_and (Ok x) b = refl
+why_and (Err e) b = sym (given e (why b))
+
 ref-start : (s : List ℕ) (n : ℕ) → (ref_in (drop n s)).start ≡ get_or s n 0
 unfolding ref_in
 ref-start s n = rw (get_or-drop, add-zero) refl
@@ -96,11 +151,11 @@ module _ (rs : List Row) (s counts₀ : List ℕ) where
     pub tally_room : ((y : ℕ) → y < length rs → get_or counts₀ y 0 + length s < 2 ^ 64) → i < length s / 2 → (y : ℕ) → y < length rs → get_or counts y 0 + 1 < 2 ^ 64
     tally_room f h y l = omega (arith, f y l, t.count y (record { start = 0; length = 0; references = 0; made = 0; keyed = 0 }) l, count-length (λ (r : Ref). eqb r.start (get_or rs y (record { start = 0; length = 0; references = 0; made = 0; keyed = 0 })).start) (refs_in s), records-length ref_in 2 s)
 
-    pub tally_turn : (x n : ℕ) (counts' : List ℕ) → i < length s / 2 → Tallied rs (get_or s (i * 2) 0) counts x counts' → n ≡ first why x → Tallying (i + 1) n counts'
+    pub tally_turn : (start x n : ℕ) (counts' : List ℕ) → start ≡ get_or s (i * 2) 0 → i < length s / 2 → Tallied rs start counts x counts' → n ≡ first why x → Tallying (i + 1) n counts'
     unfolding stage
-    tally_turn x n counts' h u e =
+    tally_turn start x n counts' a h u e =
         let r : Ref = ref_in (drop (i * 2) s) in
-        let b = ref-start s (i * 2) in
+        let b = ref-start s (i * 2) ∙ sym a in
         let m : x ≡ row_missing rs r = u.refusal ∙ ap (missing rs) (sym b) in
         record {
           refusal =
@@ -110,7 +165,7 @@ module _ (rs : List Row) (s counts₀ : List ℕ) where
               ∙ t.refusal;
           count = λ y e l.
               let q : Ref → Bool = λ r. eqb r.start (get_or rs y e).start in
-              let c : lines_at (get_or rs y e).start (drop i (refs_in s)) ≡ cond (eqb (get_or s (i * 2) 0) (get_or rs y e).start) 1 0 + lines_at (get_or rs y e).start (drop (i + 1) (refs_in s)) =
+              let c : lines_at (get_or rs y e).start (drop i (refs_in s)) ≡ cond (eqb start (get_or rs y e).start) 1 0 + lines_at (get_or rs y e).start (drop (i + 1) (refs_in s)) =
               ap (count q) (next-ref s i h) ∙ counts_cons q r (drop (i + 1) (refs_in s)) ∙ ap (λ (k : ℕ). cond (eqb k (get_or rs y e).start) 1 0 + count q (drop (i + 1) (refs_in s))) b in
               omega (arith, t.count y e l, u.count y e l, c);
         }
@@ -137,14 +192,14 @@ module _ (rs : List Row) (s counts₀ : List ℕ) where
   pub mark-start : Marking 0 counts₀
   mark-start = record { mark = λ y e h. refl }
 
-  pub mark-turn : (i : ℕ) (marks marks' : List ℕ) → i < length s / 2 → Marking i marks → Marked rs (get_or s (i * 2) 0) marks marks' → Marking (i + 1) marks'
+  pub mark-turn : (i start : ℕ) (marks marks' : List ℕ) → start ≡ get_or s (i * 2) 0 → i < length s / 2 → Marking i marks → Marked rs start marks marks' → Marking (i + 1) marks'
   unfolding any
-  mark-turn i marks marks' h t u =
+  mark-turn i start marks marks' a h t u =
       record {
         mark = λ y e l.
             let q : Ref → Bool = names (get_or rs y e).start in
-            let c : any q (drop i (refs_in s)) ≡ (eqb (get_or s (i * 2) 0) (get_or rs y e).start || any q (drop (i + 1) (refs_in s))) = ap (any q) (next-ref s i h) ∙ ap (λ (k : ℕ). eqb k (get_or rs y e).start || any q (drop (i + 1) (refs_in s))) (ref-start s (i * 2)) in
-            go (eqb (get_or s (i * 2) 0) (get_or rs y e).start) (any q (drop (i + 1) (refs_in s))) (get_or marks y 0) (get_or marks' y 0) (u.mark y e l) ∙ ap (λ (b : Bool). cond b 1 (get_or marks y 0)) (sym c) ∙ t.mark y e l;
+            let c : any q (drop i (refs_in s)) ≡ (eqb start (get_or rs y e).start || any q (drop (i + 1) (refs_in s))) = ap (any q) (next-ref s i h) ∙ ap (λ (k : ℕ). eqb k (get_or rs y e).start || any q (drop (i + 1) (refs_in s))) (ref-start s (i * 2) ∙ sym a) in
+            go (eqb start (get_or rs y e).start) (any q (drop (i + 1) (refs_in s))) (get_or marks y 0) (get_or marks' y 0) (u.mark y e l) ∙ ap (λ (b : Bool). cond b 1 (get_or marks y 0)) (sym c) ∙ t.mark y e l;
       }
     where
       go : (a b : Bool) (m m' : ℕ) → m' ≡ cond a 1 m → cond b 1 m' ≡ cond (a || b) 1 m

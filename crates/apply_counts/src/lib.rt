@@ -4,6 +4,7 @@
 
 ghost use Rattle.std.specs.Prelude.{◌≡◌, true, ◌++◌, ℕ, ◌+◌, ◌-◌, ◌*◌, ◌/◌, ◌≤◌, ◌<◌, ◌^◌, eqb, length, get_or};
 ghost use Rattle.records.specs.Lent.{old, new};
+ghost use Rattle.records.specs.Refusals.{why};
 ghost use Rattle.records.specs.Select.{count};
 ghost use Rattle.records.specs.Stages.{unless, stage};
 ghost use Rattle.table.specs.Rows.{rows, table_kept};
@@ -11,30 +12,31 @@ ghost use Rattle.apply_def.specs.Apply.{row_missing};
 ghost use Rattle.plan_def.specs.ReadBack.{refs_in};
 ghost use Rattle.apply_counts.specs.Counts.{Tallied, AllTallied, Marked, AllMarked, Counted, net_fits, nets_from};
 
-use records::{counted, first, refusal, sum_fits, unless};
+use records::refusal::Refusal;
+use records::sum_fits;
 
 // The count of the row that starts at `start`, one higher; 14 without a row.
-fn tally_line(table: &[u64], start: u64, counts: &mut [u64]) -> u8
+fn tally_line(table: &[u64], start: u64, counts: &mut [u64]) -> Result<(), Refusal>
     requires { (table_kept (rows table.now) ≡ true) × (length (rows table.now) ≤ length counts.old) × ((y : ℕ) → y < length (rows table.now) → get_or counts.old y 0 + 1 < 2 ^ 64) }
-    ensures { Tallied (rows table.now) start counts.old result counts.new }
+    ensures { Tallied (rows table.now) start counts.old (why result) counts.new }
 {
     let Some((k, _)) = table::find_row(table, start) else {
-        return refusal::NO_ROW;
+        return Err(Refusal::NoRow);
     };
-    counts[k] = counts[k] + 1;
-    0
+    counts[k] += 1;
+    Ok(())
 }
 
-// The counts of the rows that lines name; 14 if one has no row.
-fn tally(table: &[u64], lines: &[u64], counts: &mut [u64]) -> u8
+// The counts of the rows that lines name; 14 if one has no row, and the others are counted still.
+fn tally(table: &[u64], lines: &[u64], counts: &mut [u64]) -> Result<(), Refusal>
     requires { (table_kept (rows table.now) ≡ true) × (length (rows table.now) ≤ length counts.old) × ((y : ℕ) → y < length (rows table.now) → get_or counts.old y 0 + length lines.now < 2 ^ 64) }
-    ensures { AllTallied (rows table.now) (refs_in lines.now) counts.old result counts.new }
+    ensures { AllTallied (rows table.now) (refs_in lines.now) counts.old (why result) counts.new }
 {
-    let mut why = 0;
-    for i in 0..lines.len() / 2 {
-        why = first(why, tally_line(table, lines[i * 2], counts));
+    let mut missing = Ok(());
+    for line in lines.as_chunks::<2>().0 {
+        missing = missing.and(tally_line(table, line[0], counts));
     }
-    why
+    missing
 }
 
 // A mark for the row that starts at `start`, if there is one.
@@ -42,10 +44,9 @@ fn mark_line(table: &[u64], start: u64, marks: &mut [u8])
     requires { (table_kept (rows table.now) ≡ true) × (length (rows table.now) ≤ length marks.old) }
     ensures { Marked (rows table.now) start marks.old marks.new }
 {
-    let Some((k, _)) = table::find_row(table, start) else {
-        return;
-    };
-    marks[k] = 1;
+    if let Some((k, _)) = table::find_row(table, start) {
+        marks[k] = 1;
+    }
 }
 
 // Marks for the rows that lines name.
@@ -53,8 +54,8 @@ fn mark(table: &[u64], lines: &[u64], marks: &mut [u8])
     requires { (table_kept (rows table.now) ≡ true) × (length (rows table.now) ≤ length marks.old) }
     ensures { AllMarked (rows table.now) (refs_in lines.now) marks.old marks.new }
 {
-    for i in 0..lines.len() / 2 {
-        mark_line(table, lines[i * 2], marks);
+    for line in lines.as_chunks::<2>().0 {
+        mark_line(table, line[0], marks);
     }
 }
 
@@ -67,29 +68,25 @@ pub fn count_lines(
     gained: &mut [u64],
     lost: &mut [u64],
     gone: &mut [u8],
-) -> u8
+) -> Result<(), Refusal>
     requires { (table_kept (rows table.now) ≡ true)
         × (length (rows table.now) ≤ length gained.old) × (length (rows table.now) ≤ length lost.old) × (length (rows table.now) ≤ length gone.old)
         × ((y : ℕ) → y < length (rows table.now) → (get_or gained.old y 0 ≡ 0) × (get_or lost.old y 0 ≡ 0) × (get_or gone.old y 0 ≡ 0)) }
-    ensures { (result ≡ stage (row_missing (rows table.now)) (refs_in shares.now ++ (refs_in unrefs.now ++ refs_in releases.now)))
+    ensures { (why result ≡ stage (row_missing (rows table.now)) (refs_in shares.now ++ (refs_in unrefs.now ++ refs_in releases.now)))
         × Counted (refs_in shares.now) (refs_in unrefs.now) (refs_in releases.now) (rows table.now) gained.new lost.new gone.new }
 {
     mark(table, releases, gone);
     let a = tally(table, shares, gained);
     let b = tally(table, unrefs, lost);
     let c = tally(table, releases, lost);
-    first(a, first(b, c))
+    a.and(b).and(c)
 }
 
 // How many of these are 0: of marks, how many rows stay.
 pub fn count_zeros(marks: &[u8]) -> usize
     ensures { result ≡ count (λ (b : ℕ). eqb b 0) marks.now }
 {
-    let mut n = 0;
-    for i in 0..marks.len() {
-        n = counted(n, marks[i] == 0);
-    }
-    n
+    marks.iter().filter(|mark| **mark == 0).count()
 }
 
 // ---- net counts
@@ -116,15 +113,15 @@ pub fn net(references: u64, gained: u64, lost: u64) -> u64
 }
 
 // Refusal 3: a net count that leaves 64 bits.
-pub fn nets_refusal(table: &[u64], gained: &[u64], lost: &[u64]) -> u8
+pub fn nets_refusal(table: &[u64], gained: &[u64], lost: &[u64]) -> Result<(), Refusal>
     requires { (length (rows table.now) ≤ length gained.now) × (length (rows table.now) ≤ length lost.now) }
-    ensures { result ≡ unless (nets_from gained.now lost.now 0 (rows table.now)) 3 }
+    ensures { why result ≡ unless (nets_from gained.now lost.now 0 (rows table.now)) 3 }
 {
     for k in 0..table.len() / 5 {
         let row = table::row_at(table, k);
         if !net_fits(row.references, gained[k], lost[k]) {
-            return refusal::TABLE;
+            return Err(Refusal::Table);
         }
     }
-    0
+    Ok(())
 }

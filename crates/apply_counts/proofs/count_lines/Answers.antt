@@ -1,5 +1,9 @@
 use mathlib.Core.Path.{◌≡◌, ◌∙◌, ap}
 use lib.ListN.{length}
+use Prim.Native.Nat.{ℕ}
+use Rattle.records.specs.Refusals.{why}
+use Rattle.records.proofs.Tests.{first_assoc}
+use Rattle.apply_counts.proofs.Lines.{why_and}
 use Rattle.records.specs.Stages.{first}
 use Rattle.table.specs.Rows.{rows}
 use Rattle.apply_counts.proofs.Nets.{three_stages, counted_all, few-lines}
@@ -18,4 +22,4 @@ tally-c-requires c = let k : length c.tally-b.new.counts ≡ length c.args.lost.
     (c.requires.0, omega (arith, k, c.requires.2), λ y h. omega (arith, few-lines _ c.args.unrefs.now _ _ _ c.tally-b.ensures y h (c.requires.4 y h).1, c.well_formed.1.1.0, c.well_formed.1.1.1.0))
 
 pub returns : goal.returns
-returns c = (three_stages (rows c.args.table.now) _ _ _ _ _ _ _ c.tally-a.ensures.refusal c.tally-b.ensures.refusal c.tally-c.ensures.refusal (c.first-2.ensures ∙ ap (first c.tally-a.result) c.first.ensures), counted_all _ _ _ _ _ _ _ c.requires.4 _ _ _ _ _ _ _ c.mark.ensures c.tally-a.ensures c.tally-b.ensures c.tally-c.ensures)
+returns c = (three_stages (rows c.args.table.now) _ _ _ _ _ _ _ c.tally-a.ensures.refusal c.tally-b.ensures.refusal c.tally-c.ensures.refusal (ap why c.and-2.ensures ∙ why_and c.and.result c.tally-c.result ∙ ap (λ (n : ℕ). first n (why c.tally-c.result)) (ap why c.and.ensures ∙ why_and c.tally-a.result c.tally-b.result) ∙ first_assoc (why c.tally-a.result) (why c.tally-b.result) (why c.tally-c.result)), counted_all _ _ _ _ _ _ _ c.requires.4 _ _ _ _ _ _ _ c.mark.ensures c.tally-a.ensures c.tally-b.ensures c.tally-c.ensures)

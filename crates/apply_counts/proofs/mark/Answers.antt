@@ -1,23 +1,20 @@
-use mathlib.Core.Path.{◌≡◌, ◌∙◌, refl}
+use Prim.Native.Nat.{◌<◌, ◌/◌}
 use lib.ListN.{length}
-use Rattle.apply_counts.proofs.Lines.{mark-start, mark-turn, mark-done}
+use Rattle.apply_counts.proofs.Lines.{mark-start, mark-turn, mark-done, pair-start}
 use native.Mathlib.Omega.{arith}
-use borrow.Author.Rules.{rules}
 use Rattle.apply_counts.proofs.mark.Goals as goal
 
-pub loop-i-init : goal.loop-i-init
-loop-i-init c = (omega arith, omega arith, refl, mark-start _ _ _)
+pub loop-line-init : goal.loop-line-init
+loop-line-init c = mark-start _ _ _
 
 pub mark_line-requires : goal.mark_line-requires
-mark_line-requires c = (c.requires.0, omega (arith, c.requires.1, c.loop-i.invariant.2))
+mark_line-requires c = (c.requires.0, omega (arith, c.requires.1, c.loop-line.auto.marks))
 
-pub loop-i-preserved : goal.loop-i-preserved
-loop-i-preserved c = let l = c.loop-i in
-    let k : length c.mark_line.new.marks ≡ length l.marks = search rules in
-    (omega arith, l.invariant.1, k ∙ l.invariant.2, mark-turn _ c.args.lines.now _ l.i _ _ (omega arith) l.invariant.3 c.mark_line.ensures)
-
-pub shape_of-marks : goal.shape_of-marks
-shape_of-marks c = c.loop-i.invariant.2
+pub loop-line-preserved : goal.loop-line-preserved
+loop-line-preserved c = let l = c.loop-line in
+    let s = c.args.lines.now in
+    let h : l.line-index < length s / 2 = omega (arith, c.as_chunks.ensures.front_len) in
+    mark-turn _ s _ l.line-index _ _ _ (pair-start s _ l.line-index c.as_chunks.ensures.front h) h l.invariant c.mark_line.ensures
 
 pub returns : goal.returns
-returns c = mark-done _ c.args.lines.now _ c.loop-i.i _ (omega arith) c.loop-i.invariant.3
+returns c = mark-done _ c.args.lines.now _ c.loop-line.line-index _ (omega (arith, c.as_chunks.ensures.front_len)) c.loop-line.invariant

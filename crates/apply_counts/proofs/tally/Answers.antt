@@ -1,24 +1,23 @@
-use mathlib.Core.Path.{◌≡◌, ◌∙◌, refl}
+use mathlib.Core.Path.{◌∙◌, ap}
+use Prim.Native.Nat.{◌<◌, ◌/◌}
 use lib.ListN.{length}
-use Rattle.apply_counts.proofs.Lines.{tally_start, tally_room, tally_turn, tally_done}
+use Rattle.records.specs.Refusals.{why}
+use Rattle.apply_counts.proofs.Lines.{tally_start, tally_room, tally_turn, tally_done, pair-start, why_and}
 use native.Mathlib.Omega.{arith}
-use borrow.Author.Rules.{rules}
 use Rattle.apply_counts.proofs.tally.Goals as goal
 
-pub loop-i-init : goal.loop-i-init
-loop-i-init c = (omega arith, omega arith, refl, tally_start _ _ _)
+pub loop-line-init : goal.loop-line-init
+loop-line-init c = tally_start _ _ _
 
 pub tally_line-requires : goal.tally_line-requires
-tally_line-requires c = let l = c.loop-i in
-    (c.requires.0, omega (arith, c.requires.1, l.invariant.2), tally_room _ c.args.lines.now _ l.i _ _ l.invariant.3 c.requires.2 (omega arith))
+tally_line-requires c = let l = c.loop-line in
+    (c.requires.0, omega (arith, c.requires.1, l.auto.counts), tally_room _ c.args.lines.now _ l.line-index _ _ l.invariant c.requires.2 (omega (arith, c.as_chunks.ensures.front_len)))
 
-pub loop-i-preserved : goal.loop-i-preserved
-loop-i-preserved c = let l = c.loop-i in
-    let k : length c.tally_line.new.counts ≡ length l.counts = search rules in
-    (omega arith, l.invariant.1, k ∙ l.invariant.2, tally_turn _ c.args.lines.now _ l.i _ _ l.invariant.3 _ _ _ (omega arith) c.tally_line.ensures c.first-why.ensures)
-
-pub shape_of-counts : goal.shape_of-counts
-shape_of-counts c = c.loop-i.invariant.2
+pub loop-line-preserved : goal.loop-line-preserved
+loop-line-preserved c = let l = c.loop-line in
+    let s = c.args.lines.now in
+    let h : l.line-index < length s / 2 = omega (arith, c.as_chunks.ensures.front_len) in
+    tally_turn _ s _ l.line-index _ _ l.invariant _ _ _ _ (pair-start s _ l.line-index c.as_chunks.ensures.front h) h c.tally_line.ensures (ap why c.and-missing.ensures ∙ why_and l.missing c.tally_line.result)
 
 pub returns : goal.returns
-returns c = tally_done _ c.args.lines.now _ c.loop-i.i _ _ c.loop-i.invariant.3 (omega arith)
+returns c = tally_done _ c.args.lines.now _ c.loop-line.line-index _ _ c.loop-line.invariant (omega (arith, c.as_chunks.ensures.front_len))
