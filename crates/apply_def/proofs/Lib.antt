@@ -4,3 +4,4 @@ pub mod Adds
 pub mod Refusals
 pub mod Examples
 pub mod Buffers
+pub mod Chunks

@@ -1,13 +1,19 @@
 -- The checks of edits and of the result in one pass equal the definitions. Assumes nothing.
 use mathlib.Core.Path.{◌≡◌, refl, ap, ap₂, ◌∙◌, sym}
-use mathlib.Core.Bool.{Bool, true, false, cond, ◌&&◌}
-use mathlib.Core.List.{List, [], ◌∷◌, ◌++◌, flat_map}
+use mathlib.Core.Bool.{Bool, true, false, cond, ◌&&◌, ◌||◌}
+use mathlib.Core.List.{List, [], ◌∷◌, ◌++◌, map, flat_map}
 use Prim.Native.Nat.{ℕ, suc, ◌+◌, ◌-◌, ◌*◌, ◌/◌, ◌≤◌, ◌<◌}
 use native.Mathlib.Omega.{arith}
 use native.Mathlib.Nat.{zero-add, add_assoc}
 use native.Mathlib.Decide.{dec_lt}
-use lib.Dec.{ltb}
-use lib.ListN.{length, drop, length-map}
+use lib.Dec.{eqb, ltb}
+use lib.ListN.{length, get_or, drop, length-map}
+use Rattle.std.specs.List.{list_all}
+use Rattle.std.proofs.lemmas.List.{get_or-take}
+use Rattle.std.specs.Simd.{first_chunks}
+use Rattle.records.specs.Records.{records}
+use Rattle.apply_def.specs.Lent.{tag_sound}
+use Rattle.apply_def.proofs.Chunks.{chunks_read}
 use borrow.Author.Tests.{ltb-true, lt-ltb, le-ltb}
 use Rattle.records.specs.Stages.{unless, first, every, pairs, neighbours}
 use Rattle.records.specs.Raw.{sieve}
@@ -31,6 +37,20 @@ use Rattle.apply_walk.specs.declared.Step.{Step}
 use Rattle.apply_walk.specs.Merge.{left, given, some, Walked}
 use Rattle.apply_walk.specs.Checks.{items_now, result_turn, step_turn, step_next, result_sound}
 use Rattle.apply_walk.proofs.Merge.{key_read}
+
+-- ---- tags
+
+abbrev pub tag-of : List ℕ → Bool
+tag-of s = eqb (get_or s 0 0) 1 || eqb (get_or s 0 0) 2
+
+-- each chunk says put or delete if each record does
+pub tags-all : (s : List ℕ) → list_all tag-of (first_chunks 71 (length s / 71) s) ≡ every (λ (b : Bool). b) (records tag_sound 71 s)
+unfolding records every
+tags-all s = all-map (first_chunks 71 (length s / 71) s) ∙ ap (every (λ (b : Bool). b)) (chunks_read tag_sound 71 (λ t. rw (get_or-take 71 t 0 0 (omega arith)) refl) (length s / 71) s)
+  where
+    all-map : (l : List (List ℕ)) → list_all tag-of l ≡ every (λ (b : Bool). b) (map tag_sound l)
+    all-map [] = refl
+    all-map (c ∷ l) = ap (λ (b : Bool). tag-of c && b) (all-map l)
 
 -- ---- keys that rise
 

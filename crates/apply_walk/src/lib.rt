@@ -5,6 +5,7 @@
 ghost use Rattle.std.specs.Prelude.{◌≡◌, Bool, true, [], ◌∷◌, ◌+◌, ◌*◌, ◌/◌, ◌≤◌, ◌<◌, eqb, length, get_or, drop};
 ghost use Rattle.records.specs.Lent.{old};
 ghost use Rattle.records.specs.Records.{records};
+ghost use Rattle.records.specs.Refusals.{why};
 ghost use Rattle.records.specs.Stages.{unless, every, pairs};
 ghost use Rattle.item.specs.Items.{fields, decode};
 ghost use Rattle.apply_def.specs.Apply.{edits_rise};
@@ -15,51 +16,44 @@ ghost use Rattle.apply_walk.specs.Checks.{items_now, edits_sized, step_turn, ste
 
 use item::Item;
 use lists::Last;
-use records::{both, counted, either, first, refusal, unless};
+use records::refusal::{Refusal, check};
+use records::{counted, first, refusal, unless};
 
 // ---- edits
 
-fn tag_refusal(tag: u8) -> u8
-    ensures { result ≡ unless (tag_sound (tag ∷ [])) 1 }
+// Whether each edit is a put or a delete.
+fn are_tagged(edits: &[u8]) -> bool
+    ensures { result ≡ every (λ (b : Bool). b) (records tag_sound 71 edits.now) }
 {
-    unless(either(tag == 1, tag == 2), refusal::BROKEN)
-}
-
-// Refusal 1 of edits that are neither put nor delete.
-fn tags_refusal(edits: &[u8]) -> u8
-    ensures { result ≡ unless (every (λ (b : Bool). b) (records tag_sound 71 edits.now)) 1 }
-{
-    for k in 0..edits.len() / item::EDIT {
-        let why = tag_refusal(edits[k * item::EDIT]);
-        if why != 0 {
-            return why;
-        }
-    }
-    0
+    edits
+        .as_chunks::<{ item::EDIT }>()
+        .0
+        .iter()
+        .all(|edit| edit[0] == 1 || edit[0] == 2)
 }
 
 // Refusal 1 of edits: broken length, or neither put nor delete.
-pub fn edits_size_refusal(edits: &[u8]) -> u8
-    ensures { result ≡ unless (edits_sized edits.now) 1 }
+pub fn edits_size_refusal(edits: &[u8]) -> Result<(), Refusal>
+    ensures { why result ≡ unless (edits_sized edits.now) 1 }
 {
-    first(
-        unless(edits.len() % item::EDIT == 0, refusal::BROKEN),
-        tags_refusal(edits),
+    check(
+        edits.len() % item::EDIT == 0 && are_tagged(edits),
+        Refusal::Broken,
     )
 }
 
 // Refusal 2 of edits that do not rise by key.
-pub fn edits_order_refusal(edits: &[u8]) -> u8
-    ensures { result ≡ unless (pairs edits_rise (edits_in edits.now)) 2 }
+pub fn edits_order_refusal(edits: &[u8]) -> Result<(), Refusal>
+    ensures { why result ≡ unless (pairs edits_rise (edits_in edits.now)) 2 }
 {
     for k in 1..edits.len() / item::EDIT {
         let before = plan_lines::edit_item(edits, k - 1);
         let behind = plan_lines::edit_item(edits, k);
         if before.key >= behind.key {
-            return refusal::NOT_KEPT;
+            return Err(Refusal::NotKept);
         }
     }
-    0
+    Ok(())
 }
 
 // ---- the walk
