@@ -2,7 +2,7 @@
 use mathlib.Core.Path.{◌≡◌, refl, ap, ◌∙◌, sym}
 use mathlib.Core.Bool.{Bool, true, false, cond, ◌||◌}
 use mathlib.Core.List.{List, [], ◌∷◌}
-use Prim.Native.Nat.{ℕ, zero, suc, ◌+◌, ◌*◌, ◌/◌, ◌^◌, ◌≤◌, ◌<◌}
+use Prim.Native.Nat.{ℕ, ◌+◌, ◌*◌, ◌/◌, ◌^◌, ◌≤◌, ◌<◌}
 use native.Mathlib.Omega.{arith}
 use native.Mathlib.Nat.{add-zero}
 use native.Mathlib.Decide.{ℕ_discrete, dec_lt}
@@ -11,11 +11,7 @@ use lib.ListN.{length, get_or, drop, set}
 use lib.Seq.{get_or-drop, get_or-set_same, get_or-set_other}
 use borrow.Author.Tests.{eq-eqb, ne_eqb}
 use Rattle.std.specs.Simd.{first_chunks}
-use Rattle.std.specs.Result.{result_and}
-use Rattle.std.specs.Prelude.{Some, None, Result, Ok, Err}
-use Rattle.records.specs.declared.refusal.Refusal.{Refusal}
-use Rattle.records.specs.declared.refusal.Refusal.TheVariants.{Broken, NotKept, Table, Sector, Empty, TooFar, Inline, Kind, Encoded, Hole, PastSize, NoSpace, Generation, NoRow, Keyed, Nodatacow, Window, ReadElsewhere, Start, End, Offset, Length, Partial, Overlap, Growth, Place, Room}
-use Rattle.records.specs.Refusals.{number, why}
+use Rattle.std.specs.Prelude.{Some, None}
 use Rattle.records.specs.Select.{any, count}
 use Rattle.records.specs.Stages.{first, stage}
 use Rattle.records.proofs.Loops.{records-length, records_cons, records_nil}
@@ -27,6 +23,7 @@ use Rattle.table.proofs.Laws.{kept_rising, found_below, found_row, found_start, 
 use Rattle.cut_def.specs.Refs.{Ref}
 use Rattle.apply_def.specs.Apply.{lines_at, row_missing}
 use Rattle.plan_def.specs.ReadBack.{ref_in, refs_in}
+use Rattle.apply_def.proofs.Chunks.{chunk-at}
 use Rattle.apply_counts.specs.Counts.{missing, names, Tallied, AllTallied, Marked, AllMarked}
 
 -- ---- which row a line names
@@ -83,53 +80,7 @@ module _ (rs : List Row) (kept : table_kept rs ≡ true) (start : ℕ) where
 
 -- the pair that a turn takes, and where it starts
 pub pair-start : (s : List ℕ) (ps : List (List ℕ)) (i : ℕ) → ps ≡ first_chunks 2 (length s / 2) s → i < length s / 2 → get_or (get_or ps i []) 0 0 ≡ get_or s (i * 2) 0
-pair-start s ps i e h = ap (λ (l : List (List ℕ)). get_or (get_or l i []) 0 0) e ∙ go (length s / 2) s i h (omega arith)
-  where
-    go : (n : ℕ) (t : List ℕ) (k : ℕ) → k < n → n * 2 ≤ length t → get_or (get_or (first_chunks 2 n t) k []) 0 0 ≡ get_or t (k * 2) 0
-    go zero t k h l = absurd (omega arith)
-    go (suc n) [] k h l = absurd (omega arith)
-    go (suc n) (x ∷ []) k h l = absurd (omega arith)
-    go (suc n) (x ∷ (y ∷ t)) zero h l = refl
-    go (suc n) (x ∷ (y ∷ t)) (suc k) h l = let m : suc k * 2 ≡ suc (suc (k * 2)) = omega arith in rw m (go n t k (omega arith) (omega arith))
-
--- the first refusal of two stages
-given : (e : Refusal) (n : ℕ) → first (number e) n ≡ number e
-unfolding first
-given e n =
-    elim e as (λ (v : Refusal). first (number v) n ≡ number v) [
-      | Broken ↦ refl
-      | NotKept ↦ refl
-      | Table ↦ refl
-      | Sector ↦ refl
-      | Empty ↦ refl
-      | TooFar ↦ refl
-      | Inline ↦ refl
-      | Kind ↦ refl
-      | Encoded ↦ refl
-      | Hole ↦ refl
-      | PastSize ↦ refl
-      | NoSpace ↦ refl
-      | Generation ↦ refl
-      | NoRow ↦ refl
-      | Keyed ↦ refl
-      | Nodatacow ↦ refl
-      | Window ↦ refl
-      | ReadElsewhere ↦ refl
-      | Start ↦ refl
-      | End ↦ refl
-      | Offset ↦ refl
-      | Length ↦ refl
-      | Partial ↦ refl
-      | Overlap ↦ refl
-      | Growth ↦ refl
-      | Place ↦ refl
-      | Room ↦ refl
-    ]
-
-pub why_and : {A B : Type 0} (a : Result A Refusal) (b : Result B Refusal) → why (result_and a b) ≡ first (why a) (why b)
-unfolding first
-why_and (Ok x) b = refl
-why_and (Err e) b = sym (given e (why b))
+pair-start s ps i e h = ap (λ (l : List (List ℕ)). get_or (get_or l i []) 0 0) e ∙ chunk-at 2 (length s / 2) s i 0 [] 0 h (omega arith) ∙ ap (λ (k : ℕ). get_or s k 0) (add-zero (i * 2))
 
 ref-start : (s : List ℕ) (n : ℕ) → (ref_in (drop n s)).start ≡ get_or s n 0
 unfolding ref_in

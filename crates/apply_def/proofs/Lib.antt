@@ -5,3 +5,4 @@ pub mod Refusals
 pub mod Examples
 pub mod Buffers
 pub mod Chunks
+pub mod Whys

@@ -1,10 +1,9 @@
 -- The checks of edits and of the result in one pass equal the definitions. Assumes nothing.
 use mathlib.Core.Path.{◌≡◌, refl, ap, ap₂, ◌∙◌, sym}
-use mathlib.Core.Bool.{Bool, true, false, cond, ◌&&◌, ◌||◌}
-use mathlib.Core.List.{List, [], ◌∷◌, ◌++◌, map, flat_map}
+use mathlib.Core.Bool.{Bool, true, false, ◌&&◌, ◌||◌, not}
+use mathlib.Core.List.{List, [], ◌∷◌, map, flat_map}
 use Prim.Native.Nat.{ℕ, suc, ◌+◌, ◌-◌, ◌*◌, ◌/◌, ◌≤◌, ◌<◌}
 use native.Mathlib.Omega.{arith}
-use native.Mathlib.Nat.{zero-add, add_assoc}
 use native.Mathlib.Decide.{dec_lt}
 use lib.Dec.{eqb, ltb}
 use lib.ListN.{length, get_or, drop, length-map}
@@ -17,25 +16,28 @@ use Rattle.apply_def.proofs.Chunks.{chunks_read}
 use borrow.Author.Tests.{ltb-true, lt-ltb, le-ltb}
 use Rattle.records.specs.Stages.{unless, first, every, pairs, neighbours}
 use Rattle.records.specs.Raw.{sieve}
-use Rattle.records.proofs.Loops.{records_cons, records_nil}
-use Rattle.records.proofs.Tests.{both, both_left, both_right, same, first_stop, first_go, first-unless, first-zero}
-use Rattle.item.specs.Items.{Fields, fields, decode}
+use Rattle.records.proofs.Loops.{records-length, records_cons, records_nil}
+use Rattle.records.proofs.Tests.{both, both_left, both_right, same, first_go, first-unless}
+use Rattle.item.specs.Items.{Fields, decode, items}
 use Rattle.lists.specs.declared.Last.{Last}
 use Rattle.lists.specs.Lists.{item_sound, list_kept, whole_sectors}
-use Rattle.lists.specs.Raw.{begin, follows, turn, next}
+use Rattle.lists.specs.Raw.{begin, follows, next}
 use Rattle.lists.proofs.Order.{pass_all}
 use Rattle.records.specs.Select.{keep}
-use Rattle.cut_def.specs.Pieces.{Piece, items_of, insert_all}
-use Rattle.cut_def.specs.Edits.{Edit, key_of, items_after}
+use Rattle.cut_def.specs.Pieces.{Piece, kept, insert_all}
+use Rattle.cut_def.specs.Edits.{Edit, put, delete, key_of, put_of, edited, items_after}
+use Rattle.cut_def.proofs.Inserts.{insert_all-length}
+use Rattle.records.proofs.Picks.{keep_two}
+use Rattle.item.proofs.Laws.{items-length}
 use Rattle.cut_def.proofs.Applied.{Up, rising, rising_up, up_rising}
 use Rattle.edit_merge.proofs.News.{from_nil}
 use Rattle.apply_def.specs.Apply.{edits_rise}
 use Rattle.plan_def.specs.ReadBack.{edit_in, edits_in}
-use Rattle.apply_walk.specs.declared.Origin.{Origin}
-use Rattle.apply_walk.specs.declared.Origin.TheVariants.{Kept, Edited, Nothing}
-use Rattle.apply_walk.specs.declared.Step.{Step}
-use Rattle.apply_walk.specs.Merge.{left, given, some, Walked}
-use Rattle.apply_walk.specs.Checks.{items_now, result_turn, step_turn, step_next, result_sound}
+use Rattle.records.specs.declared.refusal.Refusal.{Refusal}
+use Rattle.records.specs.Refusals.{number as refusal_number}
+use Rattle.apply_def.proofs.Whys.{given}
+use Rattle.apply_walk.specs.Merge.{left}
+use Rattle.apply_walk.specs.Checks.{items_now, result_turn, result_sound}
 use Rattle.apply_walk.proofs.Merge.{key_read}
 
 -- ---- tags
@@ -117,56 +119,48 @@ module _ (s : List ℕ) (k : ℕ) (h : 0 < k) where
 
 -- ---- the walk: a turn and the end
 
-some-given : (o : Origin) (f : Fields) (ps : List Piece) → length (given o f ++ ps) ≡ cond (some o) 1 0 + length ps
-some-given (Kept n) f ps = omega arith
-some-given (Edited n) f ps = omega arith
-some-given Nothing f ps = sym (zero-add (length ps))
-
 after_nil : items_after [] [] ≡ []
 unfolding items_after flat_map keep insert_all
 after_nil = refl
 
-pub length_now : (list edits : List ℕ) → length (left list edits 0 0) ≡ length (items_now list edits)
-length_now list edits = sym (length-map (left list edits 0 0) (λ (p : Piece). p.item))
+pub walk_done : (list edits : List ℕ) (i j : ℕ) → length list / 70 ≤ i → length edits / 71 ≤ j → left list edits i j ≡ []
+walk_done list edits i j hi hj = ap₂ items_after (from_nil list i hi) (records_nil edit_in 71 edits j hj) ∙ after_nil
 
-module _ (list edits : List ℕ) (i j : ℕ) where
-  pub walk_done : length list / 70 + length edits / 71 ≤ i + j → i ≤ length list / 70 → j ≤ length edits / 71 → left list edits i j ≡ []
-  walk_done h hi hj = ap₂ items_after (from_nil list i (omega arith)) (records_nil edit_in 71 edits j (omega arith)) ∙ after_nil
-
-  module _ (r : Step) (w : Walked list edits i j r) where
-    pub length_most : (b : Bool) (n m : ℕ) → m ≡ n + cond b 1 0 → n ≤ i + j → m ≤ r.i + r.j
-    length_most true n m q h = omega (arith, w.on)
-    length_most false n m q h = omega (arith, w.on)
-
-    pub length-turn : (b : Bool) (n m : ℕ) → b ≡ some r.origin → m ≡ n + cond b 1 0 → m + length (left list edits r.i r.j) ≡ n + length (left list edits i j)
-    length-turn b n m e q = rw (w.first, some-given r.origin (fields r.item) (left list edits r.i r.j), q, e) (add_assoc n _ _)
+-- at most as many records as old ones and edits
+pub few_ahead : (list edits : List ℕ) → length (items_now list edits) ≤ length list / 70 + length edits / 71
+unfolding items_after flat_map
+few_ahead list edits =
+    let fs = items list in
+    let es = edits_in edits in
+    let keeps = λ (f : Fields). not (edited es f.key) in
+    let ps : List Piece = map kept (keep keeps fs) in
+    omega (arith, length-map (items_after fs es) (λ (p : Piece). p.item), insert_all-length (flat_map put_of es) ps, length-map (keep keeps fs) kept, keep_two keeps fs, puts_few es, items-length list, records-length edit_in 71 edits)
+  where
+    puts_few : (es : List Edit) → length (flat_map put_of es) ≤ length es
+    puts_few [] = omega arith
+    puts_few (put f ∷ es) = omega (arith, puts_few es)
+    puts_few (delete k ∷ es) = omega (arith, puts_few es)
 
 -- ---- the check of the result
 
 module _ (number sector : ℕ) where
-  abbrev pub result_sieve : Last → List Piece → ℕ
-  result_sieve a ps = sieve (result_turn number sector) next a (items_of ps)
+  abbrev pub result_sieve : Last → List Fields → ℕ
+  result_sieve a fs = sieve (result_turn number sector) next a fs
 
-  sieve-given : (o : Origin) (a : Last) (f : Fields) (ps : List Piece) → result_sieve a (given o f ++ ps) ≡ first (step_turn number sector o a f) (result_sieve (step_next o a f) ps)
+  module _ (a : Last) (f : Fields) (fs gs : List Fields) (e : fs ≡ f ∷ gs) where
+    result_cons : result_sieve a fs ≡ first (result_turn number sector a f) (result_sieve (next a f) gs)
+    unfolding sieve
+    result_cons = rw e refl
+
+    pub result_turn_lem : (b : Last) → b ≡ next a f → 0 ≡ result_turn number sector a f → result_sieve b gs ≡ result_sieve a fs
+    result_turn_lem b q t = ap (λ (c : Last). result_sieve c gs) q ∙ sym (result_cons ∙ first_go (result_turn number sector a f) _ (sym t))
+
+    pub result_stop : (r : Refusal) → refusal_number r ≡ result_turn number sector a f → refusal_number r ≡ result_sieve a fs
+    result_stop r t = sym (result_cons ∙ ap (λ (n : ℕ). first n (result_sieve (next a f) gs)) (sym t) ∙ given r _)
+
+  pub result_done : (a : Last) (fs : List Fields) → fs ≡ [] → 0 ≡ result_sieve a fs
   unfolding sieve
-  sieve-given (Kept n) a f ps = refl
-  sieve-given (Edited n) a f ps = refl
-  sieve-given Nothing a f ps = sym (first_go 0 (result_sieve a ps) refl)
-
-  module _ (list edits : List ℕ) (i j : ℕ) (r : Step) (w : Walked list edits i j r) (a : Last) (x : ℕ) (e : x ≡ step_turn number sector r.origin a (fields r.item)) where
-    result_cons : result_sieve a (left list edits i j) ≡ first x (result_sieve (step_next r.origin a (fields r.item)) (left list edits r.i r.j))
-    result_cons = ap (result_sieve a) w.first ∙ sieve-given r.origin a (fields r.item) (left list edits r.i r.j) ∙ ap (λ (y : ℕ). first y (result_sieve (step_next r.origin a (fields r.item)) (left list edits r.i r.j))) (sym e)
-
-    pub result_turn_lem : (b : Last) → b ≡ step_next r.origin a (fields r.item) → x ≡ 0 → result_sieve b (left list edits r.i r.j) ≡ result_sieve a (left list edits i j)
-    result_turn_lem b q z = ap (λ (y : Last). result_sieve y (left list edits r.i r.j)) q ∙ sym (result_cons ∙ first_go x _ z)
-
-    pub result_stop : (x ≡ 0 → ⊥) → x ≡ result_sieve a (left list edits i j)
-    result_stop z = first_stop x _ z ∙ sym result_cons
-
-  -- the two tests of each record are two tests of all
-  pub result_done : (a : Last) (ps : List Piece) → ps ≡ [] → 0 ≡ result_sieve a ps
-  unfolding sieve
-  result_done a ps h = rw h refl
+  result_done a fs h = rw h refl
 
 -- a pass of tests that all give one number
 module _ {S A : Type 0} (p : S → A → Bool) (q : A → Bool) (g : S → A → S) (n : ℕ) (h : n ≡ 0 → ⊥) where
@@ -203,7 +197,3 @@ result_all number sector fs =
     sieve-two (λ (a : Last) (f : Fields). item_sound number f && follows a f) (whole_sectors sector) next 2 (λ z. omega arith) begin fs
     ∙ ap (λ (n : ℕ). first n (unless (every (whole_sectors sector) fs) 2)) (pass_all number fs)
     ∙ first-unless (list_kept number fs) (every (whole_sectors sector) fs) 2 (λ z. omega arith)
-
--- a turn that refuses nothing
-pub turn-zero : (number sector : ℕ) (o : Origin) (a : Last) (f : Fields) → some o ≡ true → step_turn number sector o a f ≡ 0 → turn number a f ≡ 0
-turn-zero number sector o a f s h = (first-zero (turn number a f) (unless (whole_sectors sector f) 2) (rw s at h)).0

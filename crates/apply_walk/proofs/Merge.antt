@@ -9,22 +9,22 @@ use native.Mathlib.Decide.{dec_lt}
 use lib.Dec.{eqb}
 use lib.ListN.{length, get_or, drop}
 use borrow.Author.Tests.{ltb-true, ltb-false, eqb-true, eqb-false}
+use Rattle.std.specs.Prelude.{Some, None}
 use Rattle.records.specs.Stages.{pairs}
-use Rattle.records.proofs.Loops.{records-length, records-at, records_cons, records_nil}
+use Rattle.records.proofs.Loops.{records_cons, records_nil}
 use Rattle.records.proofs.Lists.{pairs-drop}
 use Rattle.item.specs.declared.Item.{Item}
 use Rattle.item.specs.Items.{Fields, fields, item_of, decode, items}
-use Rattle.item.proofs.Laws.{item-decode, items-length, items_at}
+use Rattle.item.proofs.Laws.{item-decode}
 use Rattle.lists.specs.Lists.{rises}
-use Rattle.cut_def.specs.Pieces.{built, kept}
+use Rattle.cut_def.specs.Pieces.{built, kept, items_of}
 use Rattle.cut_def.specs.Edits.{Edit, put, delete, key_of, put_of, items_after}
 use Rattle.cut_def.proofs.Applied.{ItemsUp, EditsUp, rising_up, after_kept, after-named, after-put, after-delete}
 use Rattle.edit_merge.specs.Merge.{from, gone, behind}
 use Rattle.edit_merge.proofs.News.{from_cons, from_nil}
 use Rattle.apply_def.specs.Apply.{edits_rise}
 use Rattle.plan_def.specs.ReadBack.{edit_in, edits_in}
-use Rattle.apply_walk.specs.declared.Origin.TheVariants.{Kept, Edited, Nothing}
-use Rattle.apply_walk.specs.Merge.{Rising, left, IsFrom, Walked}
+use Rattle.apply_walk.specs.Merge.{Rising, left, Walked}
 
 -- ---- rising lists
 
@@ -99,16 +99,11 @@ module _ (list edits : List ℕ) (rise : Rising list edits) (i j : ℕ) (hi : i 
   news : pairs edits_rise (drop j (edits_in edits)) ≡ true
   news = pairs-drop edits_rise j (edits_in edits) rise.news
 
-  -- old record i
-  kept_at : (f : Fields) → i < length list / 70 → f ≡ decode (drop (i * 70) list) → IsFrom list edits (Kept i) f
-  kept_at f h e = (omega (arith, items-length list), e ∙ sym (items_at list i f h))
-
-  pub walked_last : (r : Item) → length edits / 71 ≤ j → i < length list / 70 → r ≡ item_of (drop (i * 70) list) → Walked list edits i j (record { origin = Kept i; item = r; i = i + 1; j = j })
+  pub walked_last : (r : Item) → length edits / 71 ≤ j → i < length list / 70 → r ≡ item_of (drop (i * 70) list) → Walked list edits i j (record { given = Some r; i = i + 1; j = j })
   walked_last r l h e =
       let f : fields r ≡ decode (drop (i * 70) list) = item-decode r _ e in
       record {
-        first = ap₂ items_after (from_cons list i h) n ∙ old_last _ _ ∙ ap₂ (λ (g : Fields) (es : List Edit). kept g ∷ items_after (from list (i + 1)) es) (sym f) (sym n);
-        from = kept_at (fields r) h f;
+        first = ap items_of (ap₂ items_after (from_cons list i h) n ∙ old_last _ _ ∙ ap₂ (λ (g : Fields) (es : List Edit). kept g ∷ items_after (from list (i + 1)) es) (sym f) (sym n));
         on = omega arith;
         i = omega arith;
         j = hj;
@@ -132,14 +127,13 @@ module _ (list edits : List ℕ) (rise : Rising list edits) (i j : ℕ) (hi : i 
     rise-from = rw first-edit at news
 
     -- an old record before it
-    pub walked_old : (b : Bool) (o : Item) → b ≡ gone (Some r.key) (from list i) → b ≡ true → o ≡ item_of (drop (i * 70) list) → Walked list edits i j (record { origin = Kept i; item = o; i = i + 1; j = j })
+    pub walked_old : (b : Bool) (o : Item) → b ≡ gone (Some r.key) (from list i) → b ≡ true → o ≡ item_of (drop (i * 70) list) → Walked list edits i j (record { given = Some o; i = i + 1; j = j })
     walked_old b o q t x =
         let l = gone-there (Some r.key) list i (sym q ∙ t) in
         let f : fields o ≡ decode (drop (i * 70) list) = item-decode o _ x in
         let g : gone (Some (key_of edit)) (decode (drop (i * 70) list) ∷ from list (i + 1)) ≡ true = ap₂ (λ k. gone (Some k)) key (sym (from_cons list i l)) ∙ sym q ∙ t in
         record {
-          first = ap₂ items_after (from_cons list i l) first-edit ∙ old-first _ _ edit _ rise-from g ∙ ap₂ (λ (g : Fields) (es : List Edit). kept g ∷ items_after (from list (i + 1)) es) (sym f) (sym first-edit);
-          from = kept_at (fields o) l f;
+          first = ap items_of (ap₂ items_after (from_cons list i l) first-edit ∙ old-first _ _ edit _ rise-from g ∙ ap₂ (λ (g : Fields) (es : List Edit). kept g ∷ items_after (from list (i + 1)) es) (sym f) (sym first-edit));
           on = omega arith;
           i = omega arith;
           j = hj;
@@ -153,23 +147,21 @@ module _ (list edits : List ℕ) (rise : Rising list edits) (i j : ℕ) (hi : i 
           ∙ edit-first (from list i) edit (drop (j + 1) (edits_in edits)) olds rise-from (rw key (sym q ∙ t))
           ∙ ap (λ (fs : List Fields). map built (put_of edit) ++ items_after fs (drop (j + 1) (edits_in edits))) (rw key (sym p.0))
 
-      pub walked_put : (c : Bool) → c ≡ eqb (get_or (drop (j * 71) edits) 0 0) 1 → c ≡ true → Walked list edits i j (record { origin = Edited j; item = r; i = n; j = j + 1 })
+      pub walked_put : (c : Bool) → c ≡ eqb (get_or (drop (j * 71) edits) 0 0) 1 → c ≡ true → Walked list edits i j (record { given = Some r; i = n; j = j + 1 })
       walked_put c x y =
           let d : edit ≡ put (fields r) = put_read (drop (j * 71) edits) (sym x ∙ y) ∙ ap put (sym e) in
           record {
-            first = edit-step ∙ ap (λ (k : Edit). map built (put_of k) ++ left list edits n (j + 1)) d;
-            from = (omega (arith, records-length edit_in 71 edits), sym d ∙ sym (records-at edit_in 71 edits j (put (fields r)) h));
+            first = ap items_of (edit-step ∙ ap (λ (k : Edit). map built (put_of k) ++ left list edits n (j + 1)) d);
             on = omega (arith, p.1);
             i = p.2;
             j = omega arith;
           }
 
-      pub walked_delete : (c : Bool) → c ≡ eqb (get_or (drop (j * 71) edits) 0 0) 1 → c ≡ false → Walked list edits i j (record { origin = Nothing; item = r; i = n; j = j + 1 })
+      pub walked_delete : (c : Bool) → c ≡ eqb (get_or (drop (j * 71) edits) 0 0) 1 → c ≡ false → Walked list edits i j (record { given = None; i = n; j = j + 1 })
       walked_delete c x y =
           let d : edit ≡ delete (decode (drop 1 (drop (j * 71) edits))).key = delete_read (drop (j * 71) edits) (sym x ∙ y) in
           record {
-            first = edit-step ∙ ap (λ (k : Edit). map built (put_of k) ++ left list edits n (j + 1)) d;
-            from = tt;
+            first = ap items_of (edit-step ∙ ap (λ (k : Edit). map built (put_of k) ++ left list edits n (j + 1)) d);
             on = omega (arith, p.1);
             i = p.2;
             j = omega arith;

@@ -1,17 +1,15 @@
 -- For the code only: the checks of edits and of the list after them, as the code makes them in one pass.
-use Rattle.std.specs.Prelude.{Bool, cond, ◌&&◌, List, ℕ, ◌%◌, eqb, length}
+use Rattle.std.specs.Prelude.{Bool, ◌&&◌, List, ℕ, ◌%◌, eqb, length}
 use Rattle.records.specs.Records.{records}
 use Rattle.records.specs.Stages.{unless, first, every}
 use Rattle.item.specs.Items.{Fields, items}
 use Rattle.lists.specs.declared.Last.{Last}
 use Rattle.lists.specs.Lists.{whole_sectors, well_kept}
-use Rattle.lists.specs.Raw.{turn, next}
+use Rattle.lists.specs.Raw.{turn}
 use Rattle.cut_def.specs.Pieces.{items_of}
 use Rattle.cut_def.specs.Edits.{items_after}
 use Rattle.plan_def.specs.ReadBack.{edits_in}
 use Rattle.apply_def.specs.Lent.{tag_sound}
-use Rattle.apply_walk.specs.declared.Origin.{Origin}
-use Rattle.apply_walk.specs.Merge.{some}
 
 -- the list after the edits
 abbrev pub items_now : List ℕ → List ℕ → List Fields
@@ -24,13 +22,6 @@ edits_sized s = eqb (length s % 71) 0 && every (λ (b : Bool). b) (records tag_s
 -- a record of the result is sound, follows those before it, and is of whole sectors
 abbrev pub result_turn : (number sector : ℕ) → Last → Fields → ℕ
 result_turn number sector a f = first (turn number a f) (unless (whole_sectors sector f) 2)
-
--- the same of what a step gives, and the state behind it
-abbrev pub step_turn : (number sector : ℕ) → Origin → Last → Fields → ℕ
-step_turn number sector o a f = cond (some o) (result_turn number sector a f) 0
-
-abbrev pub step_next : Origin → Last → Fields → Last
-step_next o a f = cond (some o) (next a f) a
 
 abbrev pub result_sound : (number sector : ℕ) → List Fields → Bool
 result_sound number sector fs = well_kept sector number fs

@@ -2,6 +2,8 @@
 // well kept.
 #![tactic(auto)]
 
+pub mod walk;
+
 ghost use Rattle.std.specs.Prelude.{◌≡◌, Bool, true, [], ◌∷◌, ◌+◌, ◌*◌, ◌/◌, ◌≤◌, ◌<◌, eqb, length, get_or, drop};
 ghost use Rattle.records.specs.Lent.{old};
 ghost use Rattle.records.specs.Records.{records};
@@ -11,13 +13,14 @@ ghost use Rattle.item.specs.Items.{fields, decode};
 ghost use Rattle.apply_def.specs.Apply.{edits_rise};
 ghost use Rattle.plan_def.specs.ReadBack.{edits_in};
 ghost use Rattle.apply_def.specs.Lent.{tag_sound};
-ghost use Rattle.apply_walk.specs.Merge.{Rising, some, Walked};
-ghost use Rattle.apply_walk.specs.Checks.{items_now, edits_sized, step_turn, step_next, result_sound};
+ghost use Rattle.apply_walk.specs.Merge.{Rising};
+ghost use Rattle.apply_walk.specs.Walks.{ahead};
+ghost use Rattle.apply_walk.specs.Checks.{items_now, edits_sized, result_turn, result_sound};
 
 use item::Item;
 use lists::Last;
 use records::refusal::{Refusal, check};
-use records::{counted, first, refusal, unless};
+use walk::Walk;
 
 // ---- edits
 
@@ -56,144 +59,43 @@ pub fn edits_order_refusal(edits: &[u8]) -> Result<(), Refusal>
     Ok(())
 }
 
-// ---- the walk
-
-// What a record of the result is: old record n, or what edit n puts. A delete gives none.
-#[derive(Clone, Copy)]
-pub enum Origin {
-    Kept(usize),
-    Edited(usize),
-    Nothing,
-}
-
-// What a step gives, and where the next one goes on: at old record i and edit j.
-#[derive(Clone, Copy)]
-pub struct Step {
-    pub origin: Origin,
-    pub item: Item,
-    pub i: usize,
-    pub j: usize,
-}
-
-// Whether a step gives a record.
-pub fn is_some(origin: Origin) -> bool
-    ensures { result ≡ some origin }
-{
-    match origin {
-        Origin::Kept(_) => true,
-        Origin::Edited(_) => true,
-        Origin::Nothing => false,
-    }
-}
-
-// The next record of the result, from old record i and edit j on: the one with the lower key. An edit passes the old record
-// of its key.
-pub fn next_record(list: &[u8], edits: &[u8], i: usize, j: usize) -> Step
-    requires { Rising list.now edits.now × (i ≤ length list.now / 70) × (j ≤ length edits.now / 71) × (i + j < length list.now / 70 + length edits.now / 71) }
-    ensures { Walked list.now edits.now i j result }
-{
-    if j >= edits.len() / item::EDIT {
-        let old = item::item_at(list, i);
-        return Step {
-            origin: Origin::Kept(i),
-            item: old,
-            i: i + 1,
-            j,
-        };
-    }
-    let item = plan_lines::edit_item(edits, j);
-    if edit_merge::is_gone(list, i, Some(item.key)) {
-        let old = item::item_at(list, i);
-        return Step {
-            origin: Origin::Kept(i),
-            item: old,
-            i: i + 1,
-            j,
-        };
-    }
-    let next = edit_merge::passed(list, i, item.key);
-    if plan_lines::is_put(edits, j) {
-        return Step {
-            origin: Origin::Edited(j),
-            item,
-            i: next,
-            j: j + 1,
-        };
-    }
-    Step {
-        origin: Origin::Nothing,
-        item,
-        i: next,
-        j: j + 1,
-    }
-}
-
 // ---- the result
+
+// The records of the list after the edits.
+pub fn walk_result<'a>(list: &'a [u8], edits: &'a [u8]) -> Walk<'a>
+    requires { Rising list.now edits.now }
+    ensures { ahead result ≡ items_now list.now edits.now }
+{
+    Walk::at(list, edits, 0, 0)
+}
 
 // How many records the result has.
 pub fn result_length(list: &[u8], edits: &[u8]) -> usize
     requires { Rising list.now edits.now }
     ensures { result ≡ length (items_now list.now edits.now) }
 {
-    let end = list.len() / item::RECORD + edits.len() / item::EDIT;
-    let mut i = 0;
-    let mut j = 0;
-    let mut n = 0;
-    while i + j < end {
-        let step = next_record(list, edits, i, j);
-        let origin = step.origin;
-        n = counted(n, is_some(origin));
-        i = step.i;
-        j = step.j;
-    }
-    n
+    walk_result(list, edits).count()
 }
 
-// Refusal 2 of what a step gives.
-fn step_refusal(number: u64, sector: u64, last: Last, origin: Origin, item: Item) -> u8
+// Refusal 2 of a record of the result behind what was passed.
+#[tactic(auto, unfolding(records::specs::Stages::first))]
+fn record_refusal(number: u64, sector: u64, last: Last, item: Item) -> Result<(), Refusal>
     requires { 0 < sector }
-    ensures { result ≡ step_turn number sector origin last (fields item) }
+    ensures { why result ≡ result_turn number sector last (fields item) }
 {
-    if !is_some(origin) {
-        return 0;
-    }
-    first(
-        refusal::number_of(lists::turn(number, last, item)),
-        unless(lists::is_whole(item, sector), refusal::NOT_KEPT),
-    )
-}
-
-// The state behind it.
-fn step_next(number: u64, sector: u64, last: Last, origin: Origin, item: Item) -> Last
-    requires { step_turn number sector origin last (fields item) ≡ 0 }
-    ensures { result ≡ step_next origin last (fields item) }
-{
-    if !is_some(origin) {
-        return last;
-    }
-    lists::next(number, last, item)
+    lists::turn(number, last, item)?;
+    check(lists::is_whole(item, sector), Refusal::NotKept)
 }
 
 // Refusal 2 of the result: not well kept, or not of whole sectors.
-pub fn result_refusal(number: u64, sector: u64, list: &[u8], edits: &[u8]) -> u8
+pub fn result_refusal(number: u64, sector: u64, list: &[u8], edits: &[u8]) -> Result<(), Refusal>
     requires { Rising list.now edits.now × (0 < sector) }
-    ensures { result ≡ unless (result_sound number sector (items_now list.now edits.now)) 2 }
+    ensures { why result ≡ unless (result_sound number sector (items_now list.now edits.now)) 2 }
 {
-    let end = list.len() / item::RECORD + edits.len() / item::EDIT;
-    let mut i = 0;
-    let mut j = 0;
     let mut last = Last::BEGIN;
-    while i + j < end {
-        let step = next_record(list, edits, i, j);
-        let origin = step.origin;
-        let item = step.item;
-        let why = step_refusal(number, sector, last, origin, item);
-        if why != 0 {
-            return why;
-        }
-        last = step_next(number, sector, last, origin, item);
-        i = step.i;
-        j = step.j;
+    for item in walk_result(list, edits) {
+        record_refusal(number, sector, last, item)?;
+        last = lists::next(number, last, item);
     }
-    0
+    Ok(())
 }

@@ -2,8 +2,8 @@ use mathlib.Core.Path.{◌≡◌, ◌∙◌, ap}
 use lib.ListN.{length}
 use Prim.Native.Nat.{ℕ}
 use Rattle.records.specs.Refusals.{why}
+use Rattle.apply_def.proofs.Whys.{why_and}
 use Rattle.records.proofs.Tests.{first_assoc}
-use Rattle.apply_counts.proofs.Lines.{why_and}
 use Rattle.records.specs.Stages.{first}
 use Rattle.table.specs.Rows.{rows}
 use Rattle.apply_counts.proofs.Nets.{three_stages, counted_all, few-lines}

@@ -2,7 +2,8 @@ use mathlib.Core.Path.{◌∙◌, ap}
 use Prim.Native.Nat.{◌<◌, ◌/◌}
 use lib.ListN.{length}
 use Rattle.records.specs.Refusals.{why}
-use Rattle.apply_counts.proofs.Lines.{tally_start, tally_room, tally_turn, tally_done, pair-start, why_and}
+use Rattle.apply_def.proofs.Whys.{why_and}
+use Rattle.apply_counts.proofs.Lines.{tally_start, tally_room, tally_turn, tally_done, pair-start}
 use native.Mathlib.Omega.{arith}
 use Rattle.apply_counts.proofs.tally.Goals as goal
 

@@ -8,5 +8,5 @@ use Rattle.apply_walk.proofs.are_tagged.Goals as goal
 pub returns : goal.returns
 returns c =
     let h : c.all.result ≡ list_all tag-of c.as_chunks.result.0.now =
-        all_from_yields_List tag-of _ _ c.all.result c.all.ensures.ran (YieldsList-from_slice c.as_chunks.result.0.now cc) (λ x b q k. search (rules, tests)) in
+    all_from_yields_List tag-of _ _ c.all.result c.all.ensures.ran (YieldsList-from_slice c.as_chunks.result.0.now cc) (λ x b q k. search (rules, tests)) in
     h ∙ ap (list_all tag-of) c.as_chunks.ensures.front ∙ tags-all c.args.edits.now

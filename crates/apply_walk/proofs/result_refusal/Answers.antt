@@ -1,29 +1,26 @@
-use mathlib.Core.Path.{◌∙◌, sym}
-use Rattle.apply_walk.proofs.Checks.{walk_done, result_turn_lem, result_stop, result_done, result_all}
-use native.Mathlib.Omega.{arith}
+use mathlib.Core.Path.{◌≡◌, ◌∙◌, ap, sym}
+use Rattle.item.specs.Items.{fields}
+use Rattle.records.specs.Refusals.{number, why}
+use Rattle.records.proofs.Tests.{first-zero}
+use Rattle.apply_walk.specs.Walks.{ahead}
+use Rattle.apply_walk.proofs.Checks.{result_sieve, result_turn_lem, result_stop, result_done, result_all}
+use Rattle.lists.specs.Raw.{begin}
+use Rattle.std.proofs.Common.{rules}
 use Rattle.apply_walk.proofs.result_refusal.Goals as goal
 
-pub loop-i-init : goal.loop-i-init
-loop-i-init c = (omega arith, omega arith, omega arith, result_all _ _ _)
+pub loop-item-init : goal.loop-item-init
+loop-item-init c = ap (result_sieve c.args.number c.args.sector begin) (ap ahead c.into_iter-item-iterator.ensures.into_iter_gives ∙ c.walk_result-item-items.ensures) ∙ result_all c.args.number c.args.sector _
 
-pub next_record-step-requires : goal.next_record-step-requires
-next_record-step-requires c = let l = c.loop-i in
-    (c.requires.0, omega arith, omega arith, omega arith)
+pub returns-in_err-record_refusal : goal.returns-in_err-record_refusal
+returns-in_err-record_refusal c =
+    let w : why c.from_residual.result ≡ number c.in_err-record_refusal.field-0.0 = search rules in
+    w ∙ result_stop c.args.number c.args.sector c.loop-item.last (fields c.in-Some.item) _ _ c.in-Some.ensures.steps _ c.in_err-record_refusal.ensures ∙ c.loop-item.invariant
 
-pub step_refusal-why-requires : goal.step_refusal-why-requires
-step_refusal-why-requires c = c.requires.1
+pub next-last-requires : goal.next-last-requires
+next-last-requires c = (first-zero _ _ (sym c.in_ok-record_refusal.ensures)).0
 
-pub returns-then-why-ne0 : goal.returns-then-why-ne0
-returns-then-why-ne0 c = result_stop _ _ _ _ _ _ _ c.next_record-step.ensures _ _ c.step_refusal-why.ensures c.if-why-ne0.true ∙ c.loop-i.invariant.3
-
-pub step_next-last-requires : goal.step_next-last-requires
-step_next-last-requires c = sym c.step_refusal-why.ensures ∙ c.if-why-ne0.false
-
-pub loop-i-preserved : goal.loop-i-preserved
-loop-i-preserved c = let l = c.loop-i in
-    let w = c.next_record-step.ensures in
-    (l.invariant.0, w.i, w.j, result_turn_lem _ _ _ _ _ _ _ w _ _ c.step_refusal-why.ensures _ c.step_next-last.ensures c.if-why-ne0.false ∙ l.invariant.3)
+pub loop-item-preserved : goal.loop-item-preserved
+loop-item-preserved c = result_turn_lem c.args.number c.args.sector c.loop-item.last (fields c.in-Some.item) _ _ c.in-Some.ensures.steps _ c.next-last.ensures c.in_ok-record_refusal.ensures ∙ c.loop-item.invariant
 
 pub returns : goal.returns
-returns c = let l = c.loop-i in
-    result_done _ _ _ _ (walk_done _ _ l.i l.j (omega arith) (omega arith) (omega arith)) ∙ l.invariant.3
+returns c = result_done c.args.number c.args.sector _ _ c.in-None.ensures.steps.0 ∙ c.loop-item.invariant
