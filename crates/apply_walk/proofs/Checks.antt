@@ -12,7 +12,7 @@ use Rattle.std.proofs.lemmas.List.{get_or-take}
 use Rattle.std.specs.Simd.{first_chunks}
 use Rattle.records.specs.Records.{records}
 use Rattle.apply_def.specs.Lent.{tag_sound}
-use Rattle.apply_def.proofs.Chunks.{chunks_read}
+use Rattle.apply_def.proofs.Chunks.{records_read, all_read}
 use borrow.Author.Tests.{ltb-true, lt-ltb, le-ltb}
 use Rattle.records.specs.Stages.{unless, first, every, pairs, neighbours}
 use Rattle.records.specs.Raw.{sieve}
@@ -47,12 +47,7 @@ tag-of s = eqb (get_or s 0 0) 1 || eqb (get_or s 0 0) 2
 
 -- each chunk says put or delete if each record does
 pub tags-all : (s : List ℕ) → list_all tag-of (first_chunks 71 (length s / 71) s) ≡ every (λ (b : Bool). b) (records tag_sound 71 s)
-unfolding records every
-tags-all s = all-map (first_chunks 71 (length s / 71) s) ∙ ap (every (λ (b : Bool). b)) (chunks_read tag_sound 71 (λ t. rw (get_or-take 71 t 0 0 (omega arith)) refl) (length s / 71) s)
-  where
-    all-map : (l : List (List ℕ)) → list_all tag-of l ≡ every (λ (b : Bool). b) (map tag_sound l)
-    all-map [] = refl
-    all-map (c ∷ l) = ap (λ (b : Bool). tag-of c && b) (all-map l)
+tags-all s = all_read tag_sound (λ (b : Bool). b) _ ∙ ap (every (λ (b : Bool). b)) (records_read tag_sound 71 (λ t. rw (get_or-take 71 t 0 0 (omega arith)) refl) s)
 
 -- ---- keys that rise
 

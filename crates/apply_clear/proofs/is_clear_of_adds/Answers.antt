@@ -1,16 +1,14 @@
-use mathlib.Core.Path.{◌∙◌, refl}
-use Rattle.apply_clear.proofs.Clear.{adds-turn, adds_stop, adds-done}
-use native.Mathlib.Omega.{arith}
+use Rattle.std.proofs.Common.{◌≡◌, ◌∙◌, rules, tests, get_or}
+use Rattle.std.specs.List.{list_all}
+use Rattle.std.proofs.lemmas.Iterator.{YieldsList-from_slice}
+use Rattle.std.proofs.lemmas.Iterator.Search.{all_from_yields_List}
+use Rattle.plan_def.specs.Places.{clear}
+use Rattle.apply_clear.proofs.Clear.{clear_read}
 use Rattle.apply_clear.proofs.is_clear_of_adds.Goals as goal
 
-pub loop-j-init : goal.loop-j-init
-loop-j-init c = (omega arith, omega arith, refl)
-
-pub returns-then-not-is_clear : goal.returns-then-not-is_clear
-returns-then-not-is_clear c = adds_stop c.args.adds.now _ _ c.loop-j.j _ (omega arith) c.is_clear.ensures c.if-not-is_clear.true ∙ c.loop-j.invariant.2
-
-pub loop-j-preserved : goal.loop-j-preserved
-loop-j-preserved c = (omega arith, c.loop-j.invariant.1, adds-turn c.args.adds.now _ _ c.loop-j.j _ (omega arith) c.is_clear.ensures c.if-not-is_clear.false ∙ c.loop-j.invariant.2)
-
 pub returns : goal.returns
-returns c = adds-done c.args.adds.now _ _ c.loop-j.j (omega arith) ∙ c.loop-j.invariant.2
+returns c =
+    let cs = c.args.adds.now in
+    let h : c.all.result ≡ list_all (λ a. clear (get_or a 0 0) (get_or a 1 0) c.args.start c.args.len) cs =
+    all_from_yields_List (λ a. clear (get_or a 0 0) (get_or a 1 0) c.args.start c.args.len) _ _ c.all.result c.all.ensures.ran (YieldsList-from_slice cs cc) (λ x b q k. search (rules, tests)) in
+    h ∙ clear_read c.args.start c.args.len cs

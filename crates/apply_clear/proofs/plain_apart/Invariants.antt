@@ -1,13 +1,11 @@
-use mathlib.Core.Path.{◌≡◌}
-use Prim.Native.Nat.{◌-◌, ◌/◌, ◌≤◌}
-use lib.ListN.{length, drop}
+use Rattle.std.proofs.Common.{◌≡◌, map, length}
 use Rattle.records.specs.Stages.{pairs}
-use Rattle.plan_def.specs.ReadBack.{adds_in}
+use Rattle.plan_def.specs.ReadBack.{add_in}
 use Rattle.apply_clear.specs.Clear.{adds_apart}
 use Rattle.apply_clear.proofs.plain_apart.Given as goal
 
-abbrev pub invariant-loop-k : goal.invariant-loop-k
-invariant-loop-k l = (l.k ≤ l.k-end) × (l.k-end ≡ length l.adds / 3) × (pairs adds_apart (drop l.k (adds_in l.adds)) ≡ pairs adds_apart (adds_in l.adds))
+abbrev pub invariant-loop-add : goal.invariant-loop-add
+invariant-loop-add l = pairs adds_apart (map add_in l.left) ≡ pairs adds_apart (map add_in l.adds)
 
-abbrev pub decreases-loop-k : goal.decreases-loop-k
-decreases-loop-k l = l.k-end - l.k
+abbrev pub decreases-loop-add : goal.decreases-loop-add
+decreases-loop-add l = length l.left
