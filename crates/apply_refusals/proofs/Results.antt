@@ -10,12 +10,10 @@ use lib.ListN.{length, take, length-take, length-map}
 use Rattle.records.specs.Select.{keep, count}
 use Rattle.records.specs.Stages.{unless, first, stage, every}
 use Rattle.records.proofs.Counts.{count-length}
-use Rattle.records.proofs.Tests.{first_stop, first_go, first_assoc}
 use Rattle.item.specs.Items.{Fields, items}
 use Rattle.table.specs.declared.Row.{Row}
 use Rattle.table.specs.Rows.{rows, table_kept}
 use Rattle.table.proofs.Laws.{rows-length}
-use Rattle.lists.specs.Lists.{list_kept, whole_sectors}
 use Rattle.cut_def.specs.Pieces.{items_of}
 use Rattle.cut_def.specs.Edits.{Edit, items_after}
 use Rattle.plan_def.specs.Plans.{Plan, Add}
@@ -69,35 +67,23 @@ module _ (edits adds : List ℕ) (rs : List Row) (g l d : List ℕ) (missing : �
       let y : length stay ≡ z = ap length (stays_moved p rs g l d s.counted) ∙ length-map k (moved p) ∙ sym (e ∙ stays_many p rs g l d s.counted h) in
       sym (ap length rows_now_lem ∙ now_long generation adds stay ∙ ap (λ (n : ℕ). length adds / 3 + n) y ∙ add_comm (length adds / 3) z)
 
-  module _ (room space n m o x why : ℕ) (hn : n ≡ length (listNow list edits)) (hm : m ≡ length rule_rows) (ho : o ≡ unless (leb n 65536 && leb m 65536) 1) (hx : x ≡ unless (nets_from g l 0 rs) 3) (hw : why ≡ first o (first missing x)) where
-    long : n ≡ length rule_items
-    long = hn ∙ ap length (sym items_now_lem)
-
-    abbrev rest : ℕ
-    rest =
-        first (unless (list_kept number rule_items && every (whole_sectors sector) rule_items) 2)
-        (first (unless (table_kept rule_rows) 3)
-        (unless (leb (length rule_items) room && leb (length rule_rows) space) 27))
-
-    result_parts : result_refusal sector number generation room space fs rs p ≡ first why rest
-    result_parts =
-        ap (λ (y : ℕ). first y (first (stage (row_missing rs) (p.shares ++ (p.unrefs ++ p.releases))) (first (unless (every (net_sound p) rs) 3) rest)))
-        (ap₂ (λ (a b : ℕ). unless (leb a 65536 && leb b 65536) 1) (sym long) (sym hm) ∙ sym ho)
-        ∙ ap₂ (λ (a b : ℕ). first o (first a (first b rest))) (sym s.lines) (ap (λ (b : Bool). unless b 3) (sym nets_fit) ∙ sym hx)
-        ∙ ap (first o) (sym (first_assoc missing x rest))
-        ∙ sym (first_assoc o (first missing x) rest)
-        ∙ ap (λ (y : ℕ). first y rest) (sym hw)
-
-    pub result_stop : (why ≡ 0 → ⊥) → why ≡ result_refusal sector number generation room space fs rs p
-    result_stop z = first_stop why rest z ∙ sym result_parts
-
-    pub result_go : why ≡ 0 → table_kept rs ≡ true → (r y f w : ℕ) → y ≡ unless (result_sound number sector (listNow list edits)) 2 → f ≡ unless (adds_fit d rs (adds_in adds)) 3 → w ≡ unless (leb n room && leb m space) 27 → r ≡ first y (first f w)
-        → r ≡ result_refusal sector number generation room space fs rs p
-    result_go z k r y f w hy hf hv hr =
-        hr
-        ∙ ap₂ first (hy ∙ ap (λ (is : List Fields). unless (result_sound number sector is) 2) (sym items_now_lem))
-        (ap₂ first (hf ∙ ap (λ (b : Bool). unless b 3) (rows_fit k)) (hv ∙ ap₂ (λ (a b : ℕ). unless (leb a room && leb b space) 27) long hm))
-        ∙ sym (result_parts ∙ first_go why rest z)
+  -- the stages of the definition, each from what the code has
+  pub result_staged : (room space n m : ℕ) → n ≡ length (listNow list edits) → m ≡ length rule_rows → table_kept rs ≡ true
+      → first (unless (leb n 65536 && leb m 65536) 1)
+      (first missing
+      (first (unless (nets_from g l 0 rs) 3)
+      (first (unless (result_sound number sector (listNow list edits)) 2)
+      (first (unless (adds_fit d rs (adds_in adds)) 3) (unless (leb n room && leb m space) 27)))))
+      ≡ result_refusal sector number generation room space fs rs p
+  result_staged room space n m hn hm k =
+      let long : n ≡ length rule_items = hn ∙ ap length (sym items_now_lem) in
+      ap₂ (λ (a b : ℕ). first (unless (leb a 65536 && leb b 65536) 1) (first missing (first (unless (nets_from g l 0 rs) 3) (first (unless (result_sound number sector (listNow list edits)) 2) (first (unless (adds_fit d rs (adds_in adds)) 3) (unless (leb a room && leb b space) 27)))))) long hm
+      ∙ ap₂ (λ (a b : ℕ). first (unless (leb (length rule_items) 65536 && leb (length rule_rows) 65536) 1) (first a (first b (first (unless (result_sound number sector (listNow list edits)) 2) (first (unless (adds_fit d rs (adds_in adds)) 3) last))))) s.lines (ap (λ (b : Bool). unless b 3) nets_fit)
+      ∙ ap₂ (λ (a b : ℕ). first (unless (leb (length rule_items) 65536 && leb (length rule_rows) 65536) 1) (first (stage (row_missing rs) (p.shares ++ (p.unrefs ++ p.releases))) (first (unless (every (net_sound p) rs) 3) (first a (first b last)))))
+      (ap (λ (is : List Fields). unless (result_sound number sector is) 2) (sym items_now_lem)) (ap (λ (b : Bool). unless b 3) (rows_fit k))
+    where
+      last : ℕ
+      last = unless (leb (length rule_items) room && leb (length rule_rows) space) 27
 
 -- ---- what the code counts
 

@@ -1,11 +1,11 @@
-use mathlib.Core.Path.{◌∙◌, ap, sym}
-use mathlib.Core.Bool.{Bool}
+use mathlib.Core.Path.{sym}
 use Prim.Native.Nat.{◌/◌}
 use lib.ListN.{length}
 use lib.Seq.{length-take-le}
-use Rattle.records.specs.Stages.{first, unless}
+use Rattle.std.proofs.Common.{rules}
+use Rattle.records.specs.Stages.{first}
 use Rattle.table.proofs.Laws.{rows-length}
-use Rattle.apply_refusals.proofs.Results.{zeros_at, zeros_few, rows_long, result_stop, result_go}
+use Rattle.apply_refusals.proofs.Results.{zeros_at, zeros_few, rows_long, result_staged}
 use native.Mathlib.Omega.{arith}
 use Rattle.apply_refusals.proofs.result_refusal.Goals as goal
 
@@ -15,27 +15,50 @@ slice_bounds-count_zeros-end c = sym (length-take-le (length c.args.table.now / 
 pub overflow_add-m : goal.overflow_add-m
 overflow_add-m c = omega (arith, zeros_few c.count_zeros.result (length c.args.table.now / 5) c.args.gone.now c.count_zeros.ensures, c.well_formed)
 
-pub returns-then-why-ne0 : goal.returns-then-why-ne0
-returns-then-why-ne0 c = λ generation p s.
-    result_stop _ _ _ _ _ _ _ p s _ _ generation c.args.list.now _ _ _ _ _ _ _
-    c.result_length-n.ensures
+pub returns-in_err-check : goal.returns-in_err-check
+unfolding first
+returns-in_err-check c = λ generation p s.
+    rw (← result_staged _ _ _ _ _ _ _ p s c.args.sector c.args.number generation c.args.list.now c.args.room c.args.space _ _ c.result_length-n.ensures
     (rows_long _ _ _ _ _ _ _ p s c.args.sector c.args.number generation c.args.list.now _ (zeros_at _ c.args.table.now c.args.gone.now c.count_zeros.ensures) c.requires.5)
-    (c.unless.ensures ∙ ap (λ (b : Bool). unless b 1) c.both.ensures)
-    c.nets_refusal.ensures
-    (c.first-why.ensures ∙ ap (first c.unless.result) c.first.ensures)
-    c.if-why-ne0.true
+    c.requires.2)
+    (search rules)
+
+pub returns-in_err-missing : goal.returns-in_err-missing
+unfolding first
+returns-in_err-missing c = λ generation p s.
+    rw (← result_staged _ _ _ _ _ _ _ p s c.args.sector c.args.number generation c.args.list.now c.args.room c.args.space _ _ c.result_length-n.ensures
+    (rows_long _ _ _ _ _ _ _ p s c.args.sector c.args.number generation c.args.list.now _ (zeros_at _ c.args.table.now c.args.gone.now c.count_zeros.ensures) c.requires.5)
+    c.requires.2)
+    (search rules)
+
+pub returns-in_err-nets_refusal : goal.returns-in_err-nets_refusal
+unfolding first
+returns-in_err-nets_refusal c = λ generation p s.
+    rw (← result_staged _ _ _ _ _ _ _ p s c.args.sector c.args.number generation c.args.list.now c.args.room c.args.space _ _ c.result_length-n.ensures
+    (rows_long _ _ _ _ _ _ _ p s c.args.sector c.args.number generation c.args.list.now _ (zeros_at _ c.args.table.now c.args.gone.now c.count_zeros.ensures) c.requires.5)
+    c.requires.2)
+    (search rules)
+
+pub returns-in_err-result_refusal : goal.returns-in_err-result_refusal
+unfolding first
+returns-in_err-result_refusal c = λ generation p s.
+    rw (← result_staged _ _ _ _ _ _ _ p s c.args.sector c.args.number generation c.args.list.now c.args.room c.args.space _ _ c.result_length-n.ensures
+    (rows_long _ _ _ _ _ _ _ p s c.args.sector c.args.number generation c.args.list.now _ (zeros_at _ c.args.table.now c.args.gone.now c.count_zeros.ensures) c.requires.5)
+    c.requires.2)
+    (search rules)
+
+pub returns-in_err-adds_refusal : goal.returns-in_err-adds_refusal
+unfolding first
+returns-in_err-adds_refusal c = λ generation p s.
+    rw (← result_staged _ _ _ _ _ _ _ p s c.args.sector c.args.number generation c.args.list.now c.args.room c.args.space _ _ c.result_length-n.ensures
+    (rows_long _ _ _ _ _ _ _ p s c.args.sector c.args.number generation c.args.list.now _ (zeros_at _ c.args.table.now c.args.gone.now c.count_zeros.ensures) c.requires.5)
+    c.requires.2)
+    (search rules)
 
 pub returns : goal.returns
+unfolding first
 returns c = λ generation p s.
-    result_go _ _ _ _ _ _ _ p s _ _ generation c.args.list.now _ _ _ _ _ _ _
-    c.result_length-n.ensures
+    rw (← result_staged _ _ _ _ _ _ _ p s c.args.sector c.args.number generation c.args.list.now c.args.room c.args.space _ _ c.result_length-n.ensures
     (rows_long _ _ _ _ _ _ _ p s c.args.sector c.args.number generation c.args.list.now _ (zeros_at _ c.args.table.now c.args.gone.now c.count_zeros.ensures) c.requires.5)
-    (c.unless.ensures ∙ ap (λ (b : Bool). unless b 1) c.both.ensures)
-    c.nets_refusal.ensures
-    (c.first-why.ensures ∙ ap (first c.unless.result) c.first.ensures)
-    c.if-why-ne0.false
-    c.requires.2 _ _ _ _
-    c.result_refusal.ensures
-    c.adds_refusal.ensures
-    (c.unless-2.ensures ∙ ap (λ (b : Bool). unless b 27) c.both-2.ensures)
-    (c.first-3.ensures ∙ ap (first c.result_refusal.result) c.first-2.ensures)
+    c.requires.2)
+    (search rules)
