@@ -15,7 +15,7 @@ use Rattle.table.specs.Rows.{rows, table_kept, row_numbers}
 use Rattle.lists.specs.Lists.{list_kept, whole_sectors}
 use Rattle.plan_def.specs.Plans.{Plan}
 use Rattle.plan_def.specs.Outputs.{laid}
-use Rattle.apply_def.specs.Apply.{list_after, rows_after, row_missing, net_sound, Applying, applied, or_applied, apply}
+use Rattle.apply_def.specs.Apply.{list_after, rows_after, row_missing, net_sound, Applying, applied, refusal, or_applied, apply}
 use Rattle.apply_def.specs.Lent.{items_in, rows_in}
 use Rattle.apply_walk.specs.Checks.{items_now as listNow}
 use Rattle.apply_counts.specs.Counts.{nets_from}
@@ -23,16 +23,21 @@ use Rattle.apply_rows.specs.Places.{stay_from, rows_now as tableNow}
 use Rattle.apply_rows.proofs.Rows.{rows-first}
 use Rattle.apply_refusals.specs.Stages.{Ready, result_refusal, Stands}
 use Rattle.apply_refusals.proofs.Results.{items_now_lem, rows_now_lem, nets_fit}
-use Rattle.apply.specs.declared.Applied.{Applied}
-use Rattle.apply.specs.declared.Applied.TheVariants.{Done, Refused}
-use Rattle.apply.specs.Outcomes.{done, MetApplyingWith}
+use Rattle.std.specs.Prelude.{Ok, Err}
+use Rattle.records.specs.declared.refusal.Refusal.{Refusal}
+use Rattle.records.specs.Refusals.{number as refusal_number}
+use Rattle.apply_def.proofs.Whys.{positive}
+use Rattle.apply.specs.Outcomes.{done, Applied, MetApplyingWith}
 use Rattle.apply.specs.Raw.{Zeros}
 use Rattle.apply.proofs.Accepted.{apply-is}
 
 -- a refusal that is due
-pub met-refused : (o a : Applying) (n : ℕ) (list table : List ℕ) → o ≡ or_applied n a → (n ≡ 0 → ⊥) → MetApplyingWith o (Refused n) list list table table
-met-refused o a zero list table e h = absurd (h refl)
-met-refused o a (suc n) list table e h = rw e (record { answer = refl; bytes = refl; numbers = refl })
+pub met-refused : (o a : Applying) (e : Refusal) (list table : List ℕ) → o ≡ or_applied (refusal_number e) a → MetApplyingWith o (Err e) list list table table
+met-refused o a e list table q = rw (q ∙ refused (refusal_number e) (positive e)) (record { answer = refl; bytes = refl; numbers = refl })
+  where
+    refused : (n : ℕ) → (n ≡ 0 → ⊥) → or_applied n a ≡ refusal n
+    refused zero h = absurd (h refl)
+    refused (suc n) h = refl
 
 module _ (number sector generation n m : ℕ) (list table edits adds g l d : List ℕ) (missing : ℕ) (r : Ready number sector n m list table edits) where
   abbrev fs : List Fields
@@ -64,8 +69,8 @@ module _ (number sector generation n m : ℕ) (list table edits adds g l d : Lis
     apply_now : apply sector number generation room space fs rs p ≡ or_applied why (applied rule_items rule_rows)
     apply_now = apply-is number sector n m list table edits r generation room space p s.edited ∙ ap (λ (x : ℕ). or_applied x (applied rule_items rule_rows)) (sym hw)
 
-    pub result_refused : (why ≡ 0 → ⊥) → MetApplyingWith (apply sector number generation room space fs rs p) (Refused why) list list table table
-    result_refused z = met-refused (apply sector number generation room space fs rs p) (applied rule_items rule_rows) why list table apply_now z
+    pub result_refused : (e : Refusal) → why ≡ refusal_number e → MetApplyingWith (apply sector number generation room space fs rs p) (Err e) list list table table
+    result_refused e q = met-refused (apply sector number generation room space fs rs p) (applied rule_items rule_rows) e list table (apply_now ∙ ap (λ (x : ℕ). or_applied x (applied rule_items rule_rows)) q)
 
     -- the result as the code has it
     list_now : rule_items ≡ listNow (take (n * 70) list) edits
@@ -112,7 +117,7 @@ module _ (number sector generation n m : ℕ) (list table edits adds g l d : Lis
       pub result_done : (a b : ℕ) (list' table' : List ℕ)
           → a ≡ length (listNow (take (n * 70) list) edits) → list' ≡ laid encode (listNow (take (n * 70) list) edits) list
           → b ≡ length (tableNow generation adds (stay_from g l d 0 old)) → table' ≡ laid row_numbers (tableNow generation adds (stay_from g l d 0 old)) table
-          → MetApplyingWith (apply sector number generation room space fs rs p) (Done (record { items = a; rows = b })) list list' table table'
+          → MetApplyingWith (apply sector number generation room space fs rs p) (Ok (record { items = a; rows = b })) list list' table table'
       result_done a b list' table' ea el eb et =
           rw (apply_now ∙ ap (λ (x : ℕ). or_applied x (applied rule_items rule_rows)) z)
           (record {
@@ -128,9 +133,6 @@ zeroed n k h =
     let l : k ≤ length {A = ℕ} (replicate n 0) = rw (length-replicate {A = ℕ} n 0) h in
     record { gains = l; losses = l; leaves = l; zero = λ y m. let z : get_or {A = ℕ} (replicate n 0) y 0 ≡ 0 = get_or-replicate {A = ℕ} n y 0 0 (omega arith) in (z, z, z) }
 
--- a table has no more rows
-pub no_more : (n : ℕ) → n ≤ 65536 → 65536 < n → ⊥
-no_more n h l = omega arith
-
+-- what is met by a definition that says the same
 pub met-same : (o o' : Applying) (r : Applied) (list list' table table' : List ℕ) → o ≡ o' → MetApplyingWith o' r list list' table table' → MetApplyingWith o r list list' table table'
 met-same o o' r list list' table table' e m = rw e m

@@ -1,22 +1,27 @@
 -- What applying answers, and what it leaves in the list and the table that it was lent.
-use Rattle.std.specs.Prelude.{List, ◌≡◌, ℕ, length}
+use Rattle.std.specs.Prelude.{List, ◌≡◌, ℕ, length, Result, Ok, Err}
+use Rattle.records.specs.declared.refusal.Refusal.{Refusal}
+use Rattle.records.specs.Refusals.{number}
 use Rattle.records.specs.Lent.{Slice, old, new}
 use Rattle.table.specs.Rows.{row_numbers}
 use Rattle.item.specs.Items.{encode}
 use Rattle.plan_def.specs.Outputs.{laid}
 use Rattle.apply_def.specs.Apply.{Applying, applied, refusal}
-use Rattle.apply.specs.declared.Applied.{Applied}
-use Rattle.apply.specs.declared.Applied.TheVariants.{Done, Refused}
+use Rattle.apply.specs.declared.Sizes.{Sizes}
 
 -- how many records and rows there are after a plan, or the number of a refusal
 pub data Told : Type 0 where
   done : (items rows : ℕ) → Told
   refused : ℕ → Told
 
--- each case of the enum
+-- what the code answers
+abbrev pub Applied : Type 0
+Applied = Result Sizes Refusal
+
+-- each case of it
 abbrev pub applied_said : Applied → Told
-applied_said (Done s) = done s.items s.rows
-applied_said (Refused n) = refused n
+applied_said (Ok s) = done s.items s.rows
+applied_said (Err e) = refused (number e)
 
 abbrev pub told : Applying → Told
 told (applied fs rs) = done (length fs) (length rs)

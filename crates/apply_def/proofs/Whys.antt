@@ -1,5 +1,5 @@
 -- Laws of answers that may be refused. Assumes nothing.
-use Rattle.std.proofs.Common.{◌≡◌, ℕ, refl, sym}
+use Rattle.std.proofs.Common.{◌≡◌, ◌∙◌, ℕ, refl, sym, ap, arith}
 use Rattle.std.specs.Prelude.{Result, Ok, Err}
 use Rattle.std.specs.Result.{result_and}
 use Rattle.records.specs.declared.refusal.Refusal.{Refusal}
@@ -46,3 +46,8 @@ pub why_and : {A B : Type 0} (a : Result A Refusal) (b : Result B Refusal) → w
 unfolding first
 why_and (Ok x) b = refl
 why_and (Err e) b = sym (given e (why b))
+
+-- a refusal's number is not 0
+pub positive : (e : Refusal) → number e ≡ 0 → ⊥
+unfolding first
+positive e z = let h : 1 ≡ 0 = sym (ap (λ (n : ℕ). first n 1) z) ∙ given e 1 ∙ z in omega (arith, h)

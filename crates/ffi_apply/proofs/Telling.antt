@@ -6,8 +6,7 @@ use lib.ListN.{length}
 use borrow.Author.Tests.{le-leb, lt-leb}
 use Rattle.endian.specs.Le.{put}
 use Rattle.apply_def.specs.Apply.{Applying}
-use Rattle.apply.specs.declared.Applied.{Applied}
-use Rattle.apply.specs.Outcomes.{Told, done, applied_said, MetApplyingWith}
+use Rattle.apply.specs.Outcomes.{Told, done, Applied, applied_said, MetApplyingWith}
 use Rattle.ffi_apply.specs.Exports.{with_two, Heard, ExportedWith}
 
 -- a plan that is applied is told by its two counts

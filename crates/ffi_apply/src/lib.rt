@@ -9,19 +9,19 @@ ghost use Rattle.apply_def.specs.Lent.{apply_lent, parts_of};
 ghost use Rattle.apply.specs.Outcomes.{applied_said};
 ghost use Rattle.ffi_apply.specs.Exports.{Heard, Exported};
 
-use apply::Applied;
-use records::refusal;
+use apply::Sizes;
+use records::refusal::Refusal;
 
 // An answer's byte, and its two counts if the plan is applied.
-fn tell(a: Applied, answer: &mut [u64]) -> u8
+fn tell(a: Result<Sizes, Refusal>, answer: &mut [u64]) -> u8
     requires { 2 ≤ length answer.old }
     ensures { Heard (applied_said a) result answer.old answer.new }
 {
     match a {
-        Applied::Refused(why) => why,
-        Applied::Done(n) => {
-            answer[0] = n.items as u64;
-            answer[1] = n.rows as u64;
+        Err(refusal) => refusal.number(),
+        Ok(sizes) => {
+            answer[0] = sizes.items as u64;
+            answer[1] = sizes.rows as u64;
             0
         }
     }
@@ -48,7 +48,7 @@ pub extern "C" fn zag_apply(
     ensures { Exported (apply_lent sector number generation items rows list.old table.old (parts_of edits.now shares.now unrefs.now releases.now adds.now)) result answer list table }
 {
     if answer.len() < 2 {
-        return refusal::ROOM;
+        return Refusal::Room.number();
     }
     let a = apply::apply_plan(
         sector, number, generation, list, items, table, rows, edits, shares, unrefs, releases, adds,

@@ -13,9 +13,8 @@ use Rattle.plan_def.specs.Plans.{Plan, numbers, told}
 use Rattle.plan_def.specs.Outputs.{Rooms, Outs, rooms_of, left}
 use Rattle.apply_def.specs.Apply.{Applying, applied, refusal}
 use Rattle.apply_def.specs.Lent.{Parts, apply_lent}
-use Rattle.apply.specs.declared.Applied.{Applied}
-use Rattle.apply.specs.declared.Applied.TheVariants as enum
-use Rattle.apply.specs.Outcomes.{MetApplyingWith}
+use Rattle.std.specs.Prelude.{Ok, Err}
+use Rattle.apply.specs.Outcomes.{Applied, MetApplyingWith}
 use Rattle.history_theorem.specs.Calls.{Call, Lent, lent_of}
 use Rattle.history_bytes.specs.StoredState.{StoredState, Buffers, BytesCall, bytes_of, with_bytes, answer_from, list_lent, table_lent, applying_lent, stored_after, step_lent_of, step_lent, run_lent, Whole, AllLendable, OfBytes}
 use Rattle.history_bytes.specs.Called.{parts_by, stored_by, AppliedBy, DoneWith, Called, AllCalled}
@@ -24,13 +23,13 @@ use Rattle.history_bytes.proofs.Runs.{demand3_of_bytes}
 module _ (sector : ℕ) (s : StoredState) (l : Lent) (b : Buffers) where
   -- what is stored by applying's counts is what the run on bytes stores
   stored_same : (a : Applying) (r : Applied) (list table : List ℕ) → MetApplyingWith a r (list_lent sector s l b) list (table_lent sector s l b) table → stored_by s l r list table ≡ stored_after sector s l b a
-  stored_same (applied is rs) (enum.Done z) list table m =
+  stored_same (applied is rs) (Ok z) list table m =
       let i : z.items ≡ length is = cc m.answer in
       let j : z.rows ≡ length rs = cc m.answer in
       ap₂ (λ (f t : List ℕ). record { files = with_bytes l.number f s.files; table = t }) (ap₂ (λ (n : ℕ) (x : List ℕ). take (n * 70) x) i m.bytes) (ap₂ (λ (n : ℕ) (x : List ℕ). take (n * 5) x) j m.numbers)
-  stored_same (applied is rs) (enum.Refused n) list table m = let z : ◌≡◌ {A = ℕ} 0 1 = cc m.answer in absurd (omega arith)
-  stored_same (refusal n) (enum.Done z) list table m = let z : ◌≡◌ {A = ℕ} 0 1 = cc m.answer in absurd (omega arith)
-  stored_same (refusal n) (enum.Refused k) list table m = refl
+  stored_same (applied is rs) (Err n) list table m = let z : ◌≡◌ {A = ℕ} 0 1 = cc m.answer in absurd (omega arith)
+  stored_same (refusal n) (Ok z) list table m = let z : ◌≡◌ {A = ℕ} 0 1 = cc m.answer in absurd (omega arith)
+  stored_same (refusal n) (Err k) list table m = refl
 
   -- a plan's lines, found by the answer's counts, are its lines
   done-same : (p : Plan) (n : Numbers) (o : Outs) (t : StoredState) → n ≡ numbers p → o ≡ left l.number (plan p) b.outputs → AppliedBy sector s l b n o t → t ≡ stored_after sector s l b (applying_lent sector s l b p)

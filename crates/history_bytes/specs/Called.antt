@@ -1,14 +1,12 @@
 -- The calls of demand 3 as a caller of the code makes them: the operation, whose contract is `Met`, and applying, whose contract is
 -- `MetApplying`, with nothing known of either but its contract.
-use Rattle.std.specs.Prelude.{List, [], ◌∷◌, ◌≡◌, ℕ, ◌+◌, ◌*◌, ◌/◌, length, take}
+use Rattle.std.specs.Prelude.{Ok, Err, List, [], ◌∷◌, ◌≡◌, ℕ, ◌+◌, ◌*◌, ◌/◌, length, take}
 use Rattle.request.specs.declared.Numbers.{Numbers}
 use Rattle.request.specs.declared.Answer.{Answer}
 use Rattle.request.specs.declared.Answer.TheVariants.{Planned, Nothing, Refused}
 use Rattle.plan_def.specs.Outputs.{Outs, rooms_of, MetWith}
 use Rattle.apply_def.specs.Lent.{Parts, apply_lent}
-use Rattle.apply.specs.declared.Applied.{Applied}
-use Rattle.apply.specs.declared.Applied.TheVariants as applied
-use Rattle.apply.specs.Outcomes.{MetApplyingWith}
+use Rattle.apply.specs.Outcomes.{Applied, MetApplyingWith}
 use Rattle.history_theorem.specs.Calls.{Call, Lent, lent_of}
 use Rattle.history_bytes.specs.StoredState.{StoredState, Buffers, BytesCall, bytes_of, with_bytes, answer_from, list_lent, table_lent, Lendable}
 
@@ -25,8 +23,8 @@ parts_by n o =
 
 -- what is stored after applying, by its answer's counts
 abbrev pub stored_by : StoredState → Lent → Applied → (list table : List ℕ) → StoredState
-stored_by s l (applied.Done z) list table = record { files = with_bytes l.number (take (z.items * 70) list) s.files; table = take (z.rows * 5) table }
-stored_by s l (applied.Refused n) list table = s
+stored_by s l (Ok z) list table = record { files = with_bytes l.number (take (z.items * 70) list) s.files; table = take (z.rows * 5) table }
+stored_by s l (Err e) list table = s
 
 -- applying a plan of so many lines in the outputs, on the list and the table with the room behind them: what it answers and leaves is
 -- what its contract says, and t is stored then

@@ -1,6 +1,7 @@
 // One call: the compiled operation on the volume's bytes, with as many places as it wants, and applying.
 use crate::outputs::Outputs;
-use apply::Applied;
+use apply::Sizes;
+use records::refusal::Refusal;
 use request::{Answer, Numbers};
 use test_call::Operation as Ranged;
 use test_history_state::calls::{self, Call, Lent, Operation};
@@ -88,10 +89,10 @@ pub fn answer(call: Call, x: u64, s: &State, out: &mut Outputs) -> Answer {
 }
 
 // Applies a plan of these numbers to a file's list and to the table.
-pub fn applied(f: usize, n: Numbers, s: &mut State, out: &Outputs) -> Applied {
+pub fn applied(f: usize, n: Numbers, s: &mut State, out: &Outputs) -> Result<Sizes, Refusal> {
     let (sector, items, generation) = (s.sector(), s.item_count(f), s.generation.wrapping_add(1));
     let Some(list) = s.lists.get_mut(f) else {
-        return Applied::Refused(0);
+        return Err(Refusal::Broken);
     };
     apply::apply_plan(
         sector,

@@ -2,7 +2,7 @@
 use crate::claims::{self, Claim, check};
 use crate::outputs::Outputs;
 use crate::runs;
-use apply::{Applied, Sizes};
+use apply::Sizes;
 use request::{Answer, Numbers};
 use test_history_state::between;
 use test_history_state::calls::{self, Call};
@@ -60,14 +60,14 @@ fn planned(
     out: &Outputs,
 ) -> Result<(), Claim> {
     match runs::applied(call.file, n, s, out) {
-        Applied::Done(sizes) => {
+        Ok(sizes) => {
             keep_numbers(s, call.file, n, sizes);
             count_plan(counts, n);
             applied_claims(call, trial, n, s, was, out)
         }
-        Applied::Refused(why) => {
+        Err(why) => {
             counts.no_room = counts.no_room.wrapping_add(1);
-            claims::want_of_room(call.file, n, was, why)?;
+            claims::want_of_room(call.file, n, was, why.number())?;
             claims::unchanged(s, was)
         }
     }

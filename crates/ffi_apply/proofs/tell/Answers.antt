@@ -7,6 +7,6 @@ use Rattle.apply.specs.Outcomes.{applied_said}
 use Rattle.ffi_apply.proofs.Telling.{heard-done}
 use Rattle.ffi_apply.proofs.tell.Goals as goal
 
-pub returns-in-Done : goal.returns-in-Done
+pub returns-in-Ok : goal.returns-in-Ok
 unfolding put
-returns-in-Done c = heard-done _ _ _ _ _ (ap applied_said c.in-Done.is) (sets-eq (_ ∷ _ ∷ []) c.args.answer.now 0 (omega arith))
+returns-in-Ok c = heard-done _ _ _ _ _ (ap applied_said c.in-Ok.is) (sets-eq (_ ∷ _ ∷ []) c.args.answer.now 0 (omega arith))
