@@ -7,9 +7,6 @@ use native.Mathlib.Omega.{arith}
 use native.Mathlib.Decide.{dec_lt}
 use lib.Dec.{eqb}
 use lib.ListN.{length, take, drop, get_or, take-append-drop, length-drop, drop_of_length-le}
-use denote.Bor.{now}
-use denote.Ref.{Bor}
-use mathlib.Core.Path.{ap₂}
 use Rattle.std.specs.Prelude.{Some, None, position, nat_lt}
 use Rattle.std.specs.List.{position_or_len}
 use Rattle.std.proofs.lemmas.List.{drop-drop, get_or-drop}
@@ -18,8 +15,6 @@ use borrow.Author.Tests.{not-true, ltb-false}
 use Rattle.records.specs.Stages.{every, pairs}
 use Rattle.records.specs.Select.{only, keep}
 use Rattle.records.proofs.Tests.{both_left, both_right, implied, every-at}
-use Rattle.item.specs.declared.reader.Reader.{Reader}
-use Rattle.item.specs.Reading.{left}
 use Rattle.item.specs.Items.{Fields, decode, items, hole, reference}
 use Rattle.item.proofs.Laws.{items-length, items_at}
 use Rattle.lists.specs.Lists.{range_sound, rises}
@@ -28,7 +23,7 @@ use Rattle.records.proofs.Picks.{keep_append}
 use Rattle.cut_def.specs.Pieces.{counted_bytes}
 use Rattle.cut_def.specs.Refs.{Ref, ref_of}
 use Rattle.edit_merge.specs.Merge.{from, comes_first}
-use Rattle.edit_merge.proofs.News.{from_cons, from_nil}
+use Rattle.edit_merge.proofs.News.{from_cons, from_nil, first_read}
 use Rattle.clone_items.specs.declared.Copying.{Copying}
 use Rattle.clone_items.specs.Copies.{overlaps, clone_item, copied, clones}
 use Rattle.clone_items.specs.Raw.{InFiles, Copyable}
@@ -52,17 +47,6 @@ copied_solid c f h = not-true (hole f) (both_right (overlaps c f) (not (hole f))
 pub sound_first : (c : Copying) (l : List Fields) (f : Fields) (fs : List Fields) → l ≡ f ∷ fs → every (copy_sound c) l ≡ true → (copy_sound c f ≡ true) × (every (copy_sound c) fs ≡ true)
 unfolding every
 sound_first c l f fs e h = let x = rw e at h in (both_left (copy_sound c f) (every (copy_sound c) fs) x, both_right (copy_sound c f) (every (copy_sound c) fs) x)
-
--- what a reader at record k reads
-pub read_from : (r : Reader) (s : Bor (List ℕ)) (k : ℕ) → (r.list ≡ s) × (r.number ≡ k) → left r ≡ from s.now k
-read_from r s k e = ap₂ (λ i b. drop i (items b)) e.1 (ap now e.0)
-
-pub first_read : (s : List ℕ) (k : ℕ) (f : Fields) (fs : List Fields) → from s k ≡ f ∷ fs → (k < length s / 70) × (f ≡ decode (drop (k * 70) s))
-first_read s k f fs e =
-    elim (dec_lt k (length s / 70)) [
-      | yes l ↦ (l, let x : f ∷ fs ≡ decode (drop (k * 70) s) ∷ from s (k + 1) = sym e ∙ from_cons s k l in cc)
-      | no m ↦ let x : [] ≡ f ∷ fs = sym (from_nil s k (omega arith)) ∙ e in absurd cc
-    ]
 
 -- an item that the walk has come to
 pub able_read : (c : Copying) (s : List ℕ) (k : ℕ) (f : Fields) (fs : List Fields) → Copyables c (items s) → Settled c s k → from s k ≡ f ∷ fs → Copyable c f

@@ -8,7 +8,6 @@ use native.Mathlib.Omega.{arith}
 use native.Mathlib.Decide.{dec_lt}
 use native.Mathlib.Nat.{add-zero}
 use native.Mathlib.Numerals.{add-one}
-use lib.Dec.{ltb}
 use lib.ListN.{length, get_or, drop, drop_of_length-le}
 use lib.Seq.{drop-cons, get_or-drop}
 use Rattle.records.specs.Stages.{pairs}
@@ -38,7 +37,7 @@ adds-at : (s : List ℕ) (k : ℕ) (e : Add) → k < length s / 3 → get_or (ad
 unfolding records
 adds-at s k e h = chunks-at add_in 3 (length s / 3) s k e h
 
-adds_cons : (s : List ℕ) (k : ℕ) → k < length s / 3 → drop k (adds_in s) ≡ add_in (drop (k * 3) s) ∷ drop (k + 1) (adds_in s)
+pub adds_cons : (s : List ℕ) (k : ℕ) → k < length s / 3 → drop k (adds_in s) ≡ add_in (drop (k * 3) s) ∷ drop (k + 1) (adds_in s)
 adds_cons s k h =
     let l : k < length (adds_in s) = omega (arith, adds-length s) in
     rw (add-one, drop-cons (adds_in s) k (add_in s) l, adds-at s k (add_in s) h) refl
@@ -51,7 +50,7 @@ pub piece_read : (file generation : ℕ) (s : List ℕ) (k : ℕ) → of_kind (r
 unfolding add_in
 piece_read file generation s k = simp (get_or-drop, add-zero)
 
-piece_key : (s : List ℕ) (k : ℕ) → get_or s (k + 2) 0 ≡ (add_in (drop k s)).key
+pub piece_key : (s : List ℕ) (k : ℕ) → get_or s (k + 2) 0 ≡ (add_in (drop k s)).key
 unfolding add_in
 piece_key s k = simp (get_or-drop)
 
@@ -64,11 +63,8 @@ module _ (t p : List ℕ) (j k : ℕ) where
   pub piece_none : length p / 3 ≤ k → false ≡ first
   piece_none h = rw (adds_nil p k h) refl
 
-  pub piece_last : k < length p / 3 → length t / 70 ≤ j → true ≡ first
+  piece_last : k < length p / 3 → length t / 70 ≤ j → true ≡ first
   piece_last h l = rw (adds_cons p k h, from_nil t j l) refl
-
-  pub piece_both : (g : Fields) → k < length p / 3 → j < length t / 70 → g ≡ decode (drop (j * 70) t) → ltb (get_or p (k * 3 + 2) 0) g.key ≡ first
-  piece_both g h l e = rw (adds_cons p k h, from_cons t j l, e, piece_key p (k * 3)) refl
 
   -- a piece that comes first is there
   pub piece_some : (b : Bool) → b ≡ first → b ≡ true → k < length p / 3

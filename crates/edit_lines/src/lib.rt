@@ -37,11 +37,9 @@ fn is_piece(segment: &[u8], pieces: &[u64], j: usize, k: usize) -> bool
     if k >= pieces.len() / 3 {
         return false;
     }
-    if j >= segment.len() / item::RECORD {
-        return true;
-    }
-    let g = item::item_at(segment, j);
-    pieces[k * 3 + 2] < g.key
+    item::reader_at(segment, j)
+        .next()
+        .is_none_or(|g| pieces[k * 3 + 2] < g.key)
 }
 
 // The next piece or the segment's next item, whichever has the lower key.

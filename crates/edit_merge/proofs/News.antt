@@ -1,9 +1,11 @@
 -- New items put in among others, the lowest key first, and the items of a list from one on. Assumes nothing.
-use mathlib.Core.Path.{◌≡◌, refl, ap, ◌∙◌}
+use mathlib.Core.Path.{◌≡◌, refl, ap, ap₂, ◌∙◌, sym}
+use denote.Bor.{Bor, now}
 use mathlib.Core.Bool.{true, false}
 use mathlib.Core.List.{List, [], ◌∷◌, map}
 use Prim.Native.Nat.{ℕ, ◌+◌, ◌*◌, ◌/◌, ◌<◌, ◌≤◌}
 use native.Mathlib.Omega.{arith}
+use native.Mathlib.Decide.{dec_lt}
 use native.Mathlib.Numerals.{add-one}
 use lib.Dec.{leb}
 use lib.ListN.{length, drop, drop_of_length-le}
@@ -11,6 +13,8 @@ use lib.Seq.{drop-cons}
 use borrow.Author.Tests.{ltb-true, ltb-false, le-leb}
 use Rattle.records.specs.Stages.{every, pairs}
 use Rattle.records.proofs.Tests.{both, both_left, both_right, every_map}
+use Rattle.item.specs.declared.reader.Reader.{Reader}
+use Rattle.item.specs.Reading.{left}
 use Rattle.item.specs.Items.{Fields, decode, items}
 use Rattle.item.proofs.Laws.{items-length, items_at}
 use Rattle.lists.specs.Lists.{rises}
@@ -27,6 +31,24 @@ from_cons s i h =
 
 pub from_nil : (s : List ℕ) (i : ℕ) → length s / 70 ≤ i → from s i ≡ []
 from_nil s i h = drop_of_length-le (items s) {i = i} (omega (arith, items-length s))
+
+-- what a reader at record k reads
+pub read_from : (r : Reader) (s : Bor (List ℕ)) (k : ℕ) → (r.list ≡ s) × (r.number ≡ k) → left r ≡ from s.now k
+read_from r s k e = ap₂ (λ i b. drop i (items b)) e.1 (ap now e.0)
+
+pub first_read : (s : List ℕ) (k : ℕ) (f : Fields) (fs : List Fields) → from s k ≡ f ∷ fs → (k < length s / 70) × (f ≡ decode (drop (k * 70) s)) × (fs ≡ from s (k + 1))
+first_read s k f fs e =
+    elim (dec_lt k (length s / 70)) [
+      | yes l ↦ let x : f ∷ fs ≡ decode (drop (k * 70) s) ∷ from s (k + 1) = sym e ∙ from_cons s k l in (l, cc, cc)
+      | no m ↦ let x : [] ≡ f ∷ fs = sym (from_nil s k (omega arith)) ∙ e in absurd cc
+    ]
+
+pub none-read : (s : List ℕ) (k : ℕ) → from s k ≡ [] → length s / 70 ≤ k
+none-read s k e =
+    elim (dec_lt k (length s / 70)) [
+      | yes l ↦ let x : [] ≡ decode (drop (k * 70) s) ∷ from s (k + 1) = sym e ∙ from_cons s k l in absurd cc
+      | no m ↦ omega arith
+    ]
 
 -- ---- the first of the new items
 

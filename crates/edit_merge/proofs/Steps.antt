@@ -1,15 +1,14 @@
 -- The steps of a merge, from what its calls ensure. Assumes nothing.
 use mathlib.Core.Path.{◌≡◌, refl, ap, ◌∙◌, sym}
-use mathlib.Core.Bool.{true, false, cond, false≢true}
+use mathlib.Core.Bool.{true, false, false≢true}
 use mathlib.Core.List.{List, [], ◌∷◌, flat_map}
 use Prim.Native.Nat.{ℕ, zero, suc, ◌+◌, ◌*◌, ◌/◌, ◌<◌, ◌≤◌}
 use Rattle.std.specs.Prelude.{Option, Some, None}
 use Rattle.std.proofs.Common.{inl, inr}
 use native.Mathlib.Omega.{arith}
 use native.Mathlib.Decide.{dec_lt}
-use lib.Dec.{eqb, ltb}
 use lib.ListN.{length, drop, replicate}
-use borrow.Author.Tests.{eq-eqb, ne_eqb}
+use borrow.Author.Tests.{eq-eqb}
 use Rattle.records.specs.Stages.{every, pairs}
 use Rattle.records.proofs.Tests.{both_right}
 use Rattle.records.proofs.Lists.{pairs-drop}
@@ -29,48 +28,28 @@ use Rattle.edit_merge.specs.declared.Next.{Next}
 use Rattle.edit_merge.specs.declared.MergeCursor.{MergeCursor}
 use Rattle.edit_merge.specs.Merge.{gone, behind, from, Heads, GoesOn, Merging, FromSegment}
 use Rattle.edit_merge.proofs.Cases.{merge_gone, merge_put}
-use Rattle.edit_merge.proofs.News.{from_cons, from_nil}
+use Rattle.edit_merge.proofs.News.{from_cons, from_nil, first_read, none-read}
 
 -- ---- whether the old list's head goes
 
 module _ (s : List ℕ) (i : ℕ) where
-  pub gone-end : (key : Option ℕ) → length s / 70 ≤ i → false ≡ gone key (from s i)
-  gone-end key h = rw (from_nil s i h) refl
-
-  module _ (h : i < length s / 70) where
-    -- where no new item is left each old one goes
-    pub gone-last : true ≡ gone None (from s i)
-    gone-last = rw (from_cons s i h) refl
-
-    pub gone-head : (f : Fields) (key : ℕ) → f ≡ decode (drop (i * 70) s) → ltb f.key key ≡ gone (Some key) (from s i)
-    gone-head f key e = rw (from_cons s i h, e) refl
-
   -- an old item that goes is there
   pub gone-some : (key : Option ℕ) → true ≡ gone key (from s i) → i < length s / 70
   gone-some key e =
       elim (dec_lt i (length s / 70)) [
         | yes l ↦ l
-        | no m ↦ absurd (false≢true (gone-end key (omega arith) ∙ sym e))
+        | no m ↦ absurd (false≢true (sym (e ∙ ap (gone key) (from_nil s i (omega arith)))))
       ]
+
+-- a key that is put passes the old item that has it
+pub behind-same : (s : List ℕ) (i k : ℕ) (f : Fields) (fs : List Fields) → from s i ≡ f ∷ fs → f.key ≡ k → (from s (i + 1) ≡ behind k (from s i)) × (i ≤ i + 1) × (i + 1 ≤ length s / 70)
+behind-same s i k f fs e q =
+    let r = first_read s i f fs e in
+    (sym (rw (e, eq-eqb f.key k q) r.2), omega arith, omega (arith, r.0))
 
 -- the one new item that is next
 pub next_gone : (s : List ℕ) (i : ℕ) (next : Option Next) (y x : Next) → next ≡ Some y → next ≡ Some x → gone (Some y.item.key) (from s i) ≡ true → gone (Some x.item.key) (from s i) ≡ true
 next_gone s i next y x d e h = let q : y ≡ x = cc in rw q at h
-
--- the old items behind a key
-module _ (s : List ℕ) (i k : ℕ) where
-  pub behind-end : length s / 70 ≤ i → from s i ≡ behind k (from s i)
-  behind-end h = rw (from_nil s i h) refl
-
-  module _ (f : Fields) (h : i < length s / 70) (e : f ≡ decode (drop (i * 70) s)) where
-    behind_cons : behind k (from s i) ≡ cond (eqb f.key k) (from s (i + 1)) (from s i)
-    behind_cons = rw (from_cons s i h, e) refl
-
-    pub behind-same : f.key ≡ k → from s (i + 1) ≡ behind k (from s i)
-    behind-same q = sym (behind_cons ∙ rw (eq-eqb f.key k q) refl)
-
-    pub behind-other : (f.key ≡ k → ⊥) → from s i ≡ behind k (from s i)
-    behind-other q = sym (behind_cons ∙ rw (ne_eqb f.key k q) refl)
 
 -- ---- a delete's bytes
 
@@ -148,14 +127,10 @@ module _ (file : ℕ) (s : List ℕ) (n₀ : ℕ) (all : List Edit) (out₀ : Li
 
 -- ---- the next item of a segment
 
-pub segment_none : (t : List ℕ) (j k : ℕ) → length t / 70 ≤ j → FromSegment t j k None
-segment_none t j k h = record { there = λ x z. cc; none = λ z. h }
+pub segment_none : (t : List ℕ) (j k : ℕ) (next : Option Next) → next ≡ None → from t j ≡ [] → FromSegment t j k next
+segment_none t j k next e h = record { there = λ x z. cc; none = λ z. none-read t j h }
 
-pub segment_some : (t : List ℕ) (j k : ℕ) (item : Item) → j < length t / 70 → fields item ≡ decode (drop (j * 70) t) → FromSegment t j k (Some (record { item = item; j = j + 1; k = k }))
-segment_some t j k item h e = record { there = λ x z. by x (some-same z); none = λ z. cc }
-  where
-    some-same : {x y : Next} → Some x ≡ Some y → x ≡ y
-    some-same z = cc
-
-    by : (x : Next) → record { item = item; j = j + 1; k = k } ≡ x → (j < length t / 70) × (fields x.item ≡ decode (drop (j * 70) t)) × (x.j ≡ j + 1) × (x.k ≡ k)
-    by x z = rw (← z) (h, e, refl, refl)
+pub segment_some : (t : List ℕ) (j k : ℕ) (item : Item) (fs : List Fields) → from t j ≡ fields item ∷ fs → FromSegment t j k (Some (record { item = item; j = j + 1; k = k }))
+segment_some t j k item fs e =
+    let r = first_read t j (fields item) fs e in
+    record { there = λ x z. (let y : record { item = item; j = j + 1; k = k } ≡ x = cc in rw (← y) (r.0, r.1, refl, refl)); none = λ z. cc }

@@ -75,13 +75,10 @@ fn put_edit(out: &mut [u8], n: usize, file: u64, edit: Edit) -> usize
 pub fn is_gone(was: &[u8], i: usize, key: Option<u64>) -> bool
     ensures { result ≡ gone key (from was.now i) }
 {
-    if i >= was.len() / item::RECORD {
-        return false;
+    match item::reader_at(was, i).next() {
+        Some(old) => key.is_none_or(|key| old.key < key),
+        None => false,
     }
-    let Some(key) = key else {
-        return true;
-    };
-    item::item_at(was, i).key < key
 }
 
 // The old list's next item behind a key that is put: one more than i where i has that key.
@@ -89,14 +86,10 @@ pub fn passed(was: &[u8], i: usize, key: u64) -> usize
     requires { i ≤ length was.now / 70 }
     ensures { (from was.now result ≡ behind key (from was.now i)) × (i ≤ result) × (result ≤ length was.now / 70) }
 {
-    if i >= was.len() / item::RECORD {
-        return i;
+    match item::reader_at(was, i).next() {
+        Some(old) if old.key == key => i + 1,
+        _ => i,
     }
-    let f = item::item_at(was, i);
-    if f.key == key {
-        return i + 1;
-    }
-    i
 }
 
 // ---- loops over a merge, whose new items are a segment with others among it
@@ -152,12 +145,6 @@ pub fn put_next(
 pub fn segment_next(segment: &[u8], j: usize, k: usize) -> Option<Next>
     ensures { FromSegment segment.now j k result }
 {
-    if j >= segment.len() / item::RECORD {
-        return None;
-    }
-    Some(Next {
-        item: item::item_at(segment, j),
-        j: j + 1,
-        k,
-    })
+    let item = item::reader_at(segment, j).next()?;
+    Some(Next { item, j: j + 1, k })
 }

@@ -8,7 +8,7 @@ use Rattle.item.specs.Reading.{left}
 use Rattle.item.proofs.Laws.{items-length}
 use Rattle.edit_merge.specs.Merge.{from}
 use Rattle.clone_items.specs.Copies.{copied}
-use Rattle.clone_copies.proofs.Walk.{read_from}
+use Rattle.edit_merge.proofs.News.{read_from}
 use Rattle.clone_copies.proofs.distance.Goals as goal
 
 pub position-requires-clause-fits : goal.position-requires-clause-fits

@@ -1,7 +1,8 @@
 use Rattle.std.proofs.Common.{◌≡◌, sym, ap, ◌∙◌}
 use Rattle.item.specs.Items.{fields}
 use Rattle.clone_items.specs.Copies.{clone_item}
-use Rattle.clone_copies.proofs.Walk.{read_from, first_read, able_read, copy_none, copy_leads}
+use Rattle.edit_merge.proofs.News.{read_from, first_read}
+use Rattle.clone_copies.proofs.Walk.{able_read, copy_none, copy_leads}
 use Rattle.clone_copies.proofs.leading_copy.Goals as goal
 
 pub returns-in_err-item : goal.returns-in_err-item
