@@ -24,7 +24,7 @@ fn each_refusal(w: NewExtents, list: &[u8], table: &[u64], places: &[u64]) -> u8
     let mut c = change_holes::walk_start();
     for n in 0..places.len() {
         let step = change_holes::next_piece(w, list, c);
-        let why = plan_places::place_refusal(table, places[n], step.length);
+        let why = refusal::number_of(plan_places::place_refusal(table, places[n], step.length));
         if why != 0 {
             return why;
         }

@@ -209,7 +209,7 @@ fn finish_clone(
     requires { Replacing c list.now shared.now source.now table.now × (n ≡ numbers (plan_for c (items list.now) shared.now (items source.now) (rows table.now) n.size)) }
     ensures { Met c.number (λ rooms. with_room rooms (plan (plan_for c (items list.now) shared.now (items source.now) (rows table.now) n.size))) result (four edits shares unrefs releases) }
 {
-    let short = plan_places::room_refusal(
+    let short = number_of(plan_places::room_refusal(
         n,
         edits.len(),
         shares.len(),
@@ -217,7 +217,7 @@ fn finish_clone(
         releases.len(),
         0,
         0,
-    );
+    ));
     if short != 0 {
         return Answer::Refused(short);
     }

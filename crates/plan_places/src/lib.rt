@@ -2,6 +2,7 @@
 #![tactic(auto)]
 
 ghost use Rattle.std.specs.Prelude.{◌≡◌, true, ℕ};
+ghost use Rattle.records.specs.Refusals.{why};
 ghost use Rattle.records.specs.Stages.{unless, every};
 ghost use Rattle.table.specs.declared.Row.{Row};
 ghost use Rattle.table.specs.Rows.{rows, table_kept};
@@ -9,14 +10,15 @@ ghost use Rattle.plan_def.specs.Plans.{Plan, numbers};
 ghost use Rattle.plan_def.specs.Places.{clear, place_sound};
 ghost use Rattle.plan_def.specs.Outputs.{room_for};
 
-use records::{both, either, refusal, sum_at_most, sum_fits, unless};
+use records::refusal::{Refusal, check};
+use records::sum_at_most;
 use request::Numbers;
 
 // Whether [a, a + m) and [b, b + n) share no byte.
 pub fn is_clear(a: u64, m: u64, b: u64, n: u64) -> bool
     ensures { result ≡ clear a m b n }
 {
-    either(sum_at_most(a, m, b), sum_at_most(b, n, a))
+    sum_at_most(a, m, b) || sum_at_most(b, n, a)
 }
 
 // Whether a place shares no byte with a row. By halves: rows rise and do not overlap, so of those that end behind the
@@ -45,16 +47,13 @@ pub fn place_clear(table: &[u64], start: u64, length: u64) -> bool
 }
 
 // Refusal 26 of one place: it is 0, has no 64-bit end, or meets a row.
-pub fn place_refusal(table: &[u64], start: u64, length: u64) -> u8
+pub fn place_refusal(table: &[u64], start: u64, length: u64) -> Result<(), Refusal>
     requires { table_kept (rows table.now) ≡ true }
-    ensures { (k : ℕ) → result ≡ unless (place_sound (rows table.now) (record { start = start; length = length; key = k })) 26 }
+    ensures { (k : ℕ) → why result ≡ unless (place_sound (rows table.now) (record { start = start; length = length; key = k })) 26 }
 {
-    unless(
-        both(
-            start != 0,
-            both(sum_fits(start, length), place_clear(table, start, length)),
-        ),
-        refusal::PLACE,
+    check(
+        start != 0 && start.checked_add(length).is_some() && place_clear(table, start, length),
+        Refusal::Place,
     )
 }
 
@@ -68,23 +67,16 @@ pub fn room_refusal(
     releases: usize,
     adds: usize,
     writes: usize,
-) -> u8
-    ensures { (p : Plan) → numbers p ≡ n → result ≡ unless (room_for (record { edits = edits; shares = shares; unrefs = unrefs; releases = releases; adds = adds; writes = writes }) p) 27 }
+) -> Result<(), Refusal>
+    ensures { (p : Plan) → numbers p ≡ n → why result ≡ unless (room_for (record { edits = edits; shares = shares; unrefs = unrefs; releases = releases; adds = adds; writes = writes }) p) 27 }
 {
-    unless(
-        both(
-            n.edits <= edits / item::EDIT,
-            both(
-                n.shares <= shares / 2,
-                both(
-                    n.unrefs <= unrefs / 2,
-                    both(
-                        n.releases <= releases / 2,
-                        both(n.adds <= adds / 3, n.writes <= writes / 4),
-                    ),
-                ),
-            ),
-        ),
-        refusal::ROOM,
+    check(
+        n.edits <= edits / item::EDIT
+            && n.shares <= shares / 2
+            && n.unrefs <= unrefs / 2
+            && n.releases <= releases / 2
+            && n.adds <= adds / 3
+            && n.writes <= writes / 4,
+        Refusal::Room,
     )
 }
