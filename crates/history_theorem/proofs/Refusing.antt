@@ -48,7 +48,8 @@ module _ (sector : ℕ) (s : State) (c : Call) (p : Plan) (law : Lawful sector s
         | yes z ↦
             (let some : 0 < total st s.files = elim (dec_lt 0 (gained p st)) [ yes g ↦ law.shared st g | no g ↦ omega arith ] in
             let r = t st some in
-            let same : row ≡ r.1 = cc (e, r.2) in
+            let found : ◌≡◌ {A = ℕ × Row} (k, row) (r.0, r.1) = cc (e, r.2) in
+            let same : row ≡ r.1 = ap (λ (o : ℕ × Row). o.1) found in
             let refs : row.references ≡ total st s.files = ap (λ (x : Row). x.references) same ∙ r.3 in
             omega arith)
       ]
