@@ -59,7 +59,9 @@ pub fn item(key: u64, kind: u64, start: u64, length: u64, position: u64, window:
 }
 
 // Items as a list of N bytes; those that find no room are left out.
-pub fn list<const N: usize>(items: &[Item]) -> [u8; N] {
+pub fn list<const N: usize>(items: &[Item]) -> [u8; N]
+    ensures { N ≡ length result }
+{
     let mut list = [0u8; N];
     for (record, item) in list.chunks_exact_mut(item::RECORD).zip(items) {
         item::put_item(record, 0, *item);
@@ -68,12 +70,16 @@ pub fn list<const N: usize>(items: &[Item]) -> [u8; N] {
 }
 
 // The file's one item, as a list; a hole where its extent starts at 0.
-pub fn list_of(kind: u64, start: u64) -> [u8; 70] {
+pub fn list_of(kind: u64, start: u64) -> [u8; 70]
+    ensures { 70 ≡ length result }
+{
     list(&[item(0, kind, start, 16384, 0, 16384)])
 }
 
 // The row of its extent: start, length, references, generation made, keyed.
-pub fn row(bytes: u64, keyed: u64) -> [u64; 5] {
+pub fn row(bytes: u64, keyed: u64) -> [u64; 5]
+    ensures { 5 ≡ length result }
+{
     [1048576, bytes, 1, 5, keyed]
 }
 
