@@ -1,4 +1,4 @@
 pub mod Orders
 pub mod Spacing
 pub mod Turns
-pub mod Buffers
+pub mod Adds

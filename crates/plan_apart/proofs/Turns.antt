@@ -1,51 +1,38 @@
--- The loop of `are_spaced`: pairs k - 1 and k. Assumes nothing.
-use mathlib.Core.Path.{◌≡◌, refl, ap, ◌∙◌, sym}
-use mathlib.Core.Bool.{Bool, true, false, ◌&&◌}
+-- What a test of each two neighbours says. Assumes nothing.
+use mathlib.Core.Path.{◌≡◌, refl, ◌∙◌, sym}
+use mathlib.Core.Bool.{Bool, true, false, false≢true}
 use mathlib.Core.List.{List, [], ◌∷◌}
-use Prim.Native.Nat.{ℕ, ◌+◌, ◌-◌, ◌*◌, ◌/◌, ◌≤◌, ◌<◌}
+use Prim.Native.Nat.{ℕ, zero, suc, ◌+◌, ◌<◌}
 use native.Mathlib.Omega.{arith}
-use native.Mathlib.Decide.{dec_lt}
-use lib.Dec.{leb}
-use lib.ListN.{length, get_or, drop}
+use native.Mathlib.Numerals.{add-one}
+use lib.ListN.{length, get_or}
+use Rattle.std.specs.List.{AllAdjacentBelow, IsAllAdjacentAnswer}
 use Rattle.records.specs.Stages.{neighbours}
-use Rattle.records.proofs.Loops.{records_nil}
-use Rattle.cut_def.specs.Refs.{Ref}
-use Rattle.plan_def.specs.ReadBack.{ref_in, refs_in}
-use Rattle.ref_sort.specs.Order.{pair_at}
-use Rattle.ref_sort.proofs.Pairs.{pair_cons}
+use Rattle.records.proofs.Tests.{both, both_left, both_right, never}
+use Rattle.ref_sort.specs.Order.{pair_ref, pair_refs}
 use Rattle.plan_apart.specs.Spacing.{ends_by}
 
--- the pairs from one on follow each other
-abbrev pub spaced : List ℕ → ℕ → Bool
-spaced s n = neighbours ends_by (drop n (refs_in s))
+-- an extent ends at most where another starts
+abbrev pub ends : ℕ × ℕ → ℕ × ℕ → Bool
+ends a b = ends_by (pair_ref a) (pair_ref b)
 
-module _ (s : List ℕ) (k : ℕ) (h : 0 < k) where
-  module _ (b : Bool) (l : k < length s / 2) (q : b ≡ leb (get_or s (k * 2 - 2) 0 + get_or s (k * 2 - 1) 0) (get_or s (k * 2) 0)) where
-    two-pairs : spaced s (k - 1) ≡ (b && spaced s k)
-    unfolding neighbours
-    two-pairs =
-        let n : k - 1 + 1 ≡ k = omega arith in
-        let x : (k - 1) * 2 ≡ k * 2 - 2 = omega arith in
-        let y : k * 2 - 2 + 1 ≡ k * 2 - 1 = omega arith in
-        rw (pair_cons s (k - 1) (omega arith), n, pair_cons s k l, x, y, ← q) refl
+all-spaced : (l : List (ℕ × ℕ)) → AllAdjacentBelow (λ a b. true ≡ ends a b) l (length l) → neighbours ends_by (pair_refs l) ≡ true
+unfolding neighbours
+all-spaced [] h = refl
+all-spaced (a ∷ []) h = refl
+all-spaced (a ∷ (b ∷ l)) h =
+    let t : AllAdjacentBelow (λ a b. true ≡ ends a b) (b ∷ l) (length (b ∷ l)) = λ k d j. rw add-one (rw add-one at (h (suc k) d (omega arith))) in
+    both (ends a b) (neighbours ends_by (pair_refs (b ∷ l))) (sym (h 0 a (omega arith))) (all-spaced (b ∷ l) t)
 
-    pub spaced-turn : b ≡ true → spaced s (k + 1 - 1) ≡ spaced s (k - 1)
-    spaced-turn z =
-        let n : k + 1 - 1 ≡ k = omega arith in
-        ap (spaced s) n ∙ sym (two-pairs ∙ ap (λ (c : Bool). c && spaced s k) z)
+spaced_at : (l : List (ℕ × ℕ)) (k : ℕ) (d : ℕ × ℕ) → neighbours ends_by (pair_refs l) ≡ true → k + 1 < length l → ends (get_or l k d) (get_or l (k + 1) d) ≡ true
+unfolding neighbours
+spaced_at [] k d h j = absurd (omega arith)
+spaced_at (a ∷ []) k d h j = absurd (omega arith)
+spaced_at (a ∷ (b ∷ l)) zero d h j = both_left (ends a b) (neighbours ends_by (pair_refs (b ∷ l))) h
+spaced_at (a ∷ (b ∷ l)) (suc k) d h j = rw add-one (rw add-one at (spaced_at (b ∷ l) k d (both_right (ends a b) (neighbours ends_by (pair_refs (b ∷ l))) h) (omega arith)))
 
-    pub spaced_stop : b ≡ false → false ≡ spaced s (k - 1)
-    spaced_stop z = sym (two-pairs ∙ ap (λ (c : Bool). c && spaced s k) z)
-
-  pub spaced-done : length s / 2 ≤ k → true ≡ spaced s (k - 1)
-  spaced-done l =
-      elim (dec_lt (k - 1) (length s / 2)) [
-        | yes m ↦ sym (one (pair_cons s (k - 1) m ∙ ap (λ (rs : List Ref). pair_at s (k - 1) ∷ rs) (records_nil ref_in 2 s (k - 1 + 1) (omega arith))))
-        | no m ↦ sym (none (records_nil ref_in 2 s (k - 1) (omega arith)))
-      ]
-    where
-      one : {r : Ref} {rs : List Ref} → rs ≡ r ∷ [] → neighbours ends_by rs ≡ true
-      one q = unfold neighbours in rw q refl
-
-      none : {rs : List Ref} → rs ≡ [] → neighbours ends_by rs ≡ true
-      none q = unfold neighbours in rw q refl
+-- so the answer of a test of all neighbours is the definition's
+pub spaced-is : (l : List (ℕ × ℕ)) (r : Bool) → IsAllAdjacentAnswer (λ a b t. t ≡ ends a b) l r → r ≡ neighbours ends_by (pair_refs l)
+spaced-is l true h = sym (all-spaced l h)
+spaced-is l false h =
+    sym (never (neighbours ends_by (pair_refs l)) (λ e. false≢true (h.2 (0, 0) ∙ spaced_at l h.0 (0, 0) e h.1)))

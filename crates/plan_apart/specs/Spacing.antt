@@ -1,9 +1,8 @@
 -- For the code only: extents that share no byte, each a pair of numbers: its start, and its length as the offset.
-use Rattle.std.specs.Prelude.{Bool, List, ℕ, ◌+◌, leb}
+use Rattle.std.specs.Prelude.{Bool, ◌+◌, leb}
 use Rattle.cut_def.specs.Refs.{Ref}
 use Rattle.plan_def.specs.Plans.{Add}
 use Rattle.plan_def.specs.Places.{clear}
-use Rattle.plan_def.specs.Outputs.{ref_numbers}
 
 -- two extents share no byte
 abbrev pub apart : Ref → Ref → Bool
@@ -16,7 +15,3 @@ ends_by r q = leb (r.start + r.offset) q.start
 -- an add's extent
 abbrev pub extent_of : Add → Ref
 extent_of a = record { start = a.start; offset = a.length }
-
--- its two numbers
-abbrev pub extent_numbers : Add → List ℕ
-extent_numbers a = ref_numbers (extent_of a)

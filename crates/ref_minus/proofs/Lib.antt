@@ -1,3 +1,2 @@
 pub mod Minus
 pub mod Turns
-pub mod Tiers

@@ -8,9 +8,14 @@ use Rattle.records.specs.Select.{only}
 use Rattle.records.proofs.Tests.{both, both_left, both_right, every_map}
 use Rattle.cut_def.specs.Refs.{Ref, same_ref}
 use Rattle.ref_def.specs.Compared.{ref_before, without, minus}
-use Rattle.ref_sort.specs.Order.{upward, ordered, starts_before}
+use Rattle.ref_sort.specs.Order.{upward, ordered}
 use Rattle.ref_sort.proofs.Order.{Order, rises, level, falls, compare, before_up, before-upward, same_self}
 use Rattle.ref_minus.specs.Walk.{starts_with, past}
+
+-- the first of a list is before r
+abbrev pub starts_before : Ref → List Ref → Bool
+starts_before r [] = false
+starts_before r (q ∷ qs) = ref_before q r
 
 -- ---- skipping
 
@@ -56,7 +61,7 @@ unfolding minus without
 minus-met x xs ys = rw (same_self x) refl
 
 -- nothing of what is past x is before x
-past-ordered : (x : Ref) (ys : List Ref) → ordered ys ≡ true → ordered (past x ys) ≡ true
+pub past-ordered : (x : Ref) (ys : List Ref) → ordered ys ≡ true → ordered (past x ys) ≡ true
 unfolding past pairs
 past-ordered x [] o = refl
 past-ordered x (y ∷ ys) o = go (ref_before y x) (past-ordered x ys (both_right (every (upward y) ys) (ordered ys) o))

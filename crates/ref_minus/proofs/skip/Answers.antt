@@ -1,20 +1,22 @@
-use mathlib.Core.Path.{refl, ◌∙◌}
-use Rattle.ref_sort.proofs.Inserting.{starts-there}
-use Rattle.ref_minus.proofs.Turns.{past-turn, past-done}
-use native.Mathlib.Omega.{arith}
+use mathlib.Core.Path.{◌∙◌, sym, ap}
+use Prim.Native.Nat.{ℕ}
+use mathlib.Core.List.{List}
+use Rattle.ref_sort.specs.Order.{pair_ref, pair_refs}
+use Rattle.ref_sort.proofs.Sorts.{pair_ge}
+use Rattle.ref_minus.specs.Walk.{past}
+use Rattle.ref_minus.proofs.Turns.{skip_over, skip_stop, skip_none}
 use Rattle.ref_minus.proofs.skip.Goals as goal
 
-pub loop-k-init : goal.loop-k-init
-loop-k-init c = (c.requires, refl)
+pub loop-y-preserved : goal.loop-y-preserved
+loop-y-preserved c =
+    let x = c.args.x in
+    skip_over x _ _ (sym (c.ge.ensures ∙ pair_ge _ x) ∙ c.if-ge.false) ∙ ap (λ (l : List (ℕ × ℕ)). past (pair_ref x) (pair_refs l)) (sym c.in-Some.ensures.cases.0) ∙ c.loop-y.invariant
 
-pub overflow_add-k : goal.overflow_add-k
-overflow_add-k c = let a = c.args in let l = c.loop-k in omega (arith, starts-there a.ys.now l.k (record { start = a.s; offset = a.p }) _ c.is_earlier.ensures c.loop-k-test.true)
+pub returns-then-ge : goal.returns-then-ge
+returns-then-ge c =
+    let x = c.args.x in
+    let e = c.in-Some.ensures.cases.0 in
+    ap pair_refs e ∙ skip_stop x _ _ (sym (c.ge.ensures ∙ pair_ge _ x) ∙ c.if-ge.true) ∙ ap (λ (l : List (ℕ × ℕ)). past (pair_ref x) (pair_refs l)) (sym e) ∙ c.loop-y.invariant
 
-pub loop-k-smaller : goal.loop-k-smaller
-loop-k-smaller c = let a = c.args in let l = c.loop-k in omega (arith, starts-there a.ys.now l.k (record { start = a.s; offset = a.p }) _ c.is_earlier.ensures c.loop-k-test.true)
-
-pub loop-k-preserved : goal.loop-k-preserved
-loop-k-preserved c = let a = c.args in let l = c.loop-k in (omega (arith, starts-there a.ys.now l.k (record { start = a.s; offset = a.p }) _ c.is_earlier.ensures c.loop-k-test.true), past-turn a.ys.now l.k (record { start = a.s; offset = a.p }) _ c.is_earlier.ensures c.loop-k-test.true ∙ l.invariant.1)
-
-pub returns : goal.returns
-returns c = let a = c.args in let l = c.loop-k in (l.invariant.0, past-done a.ys.now l.k (record { start = a.s; offset = a.p }) _ c.is_earlier.ensures c.loop-k-test.false ∙ l.invariant.1)
+pub returns-in_default : goal.returns-in_default
+returns-in_default c = skip_none c.args.x _ c.in_default.ensures.cases ∙ c.loop-y.invariant

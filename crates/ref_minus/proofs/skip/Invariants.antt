@@ -1,12 +1,10 @@
-use mathlib.Core.Path.{◌≡◌}
-use Prim.Native.Nat.{◌-◌, ◌/◌, ◌≤◌}
-use lib.ListN.{length, drop}
-use Rattle.plan_def.specs.ReadBack.{refs_in}
+use Rattle.std.proofs.Common.{◌≡◌, length}
+use Rattle.ref_sort.specs.Order.{pair_ref, pair_refs}
 use Rattle.ref_minus.specs.Walk.{past}
 use Rattle.ref_minus.proofs.skip.Given as goal
 
-abbrev pub invariant-loop-k : goal.invariant-loop-k
-invariant-loop-k l = (l.k ≤ length l.ys / 2) × (past (record { start = l.s; offset = l.p }) (drop l.k (refs_in l.ys)) ≡ past (record { start = l.s; offset = l.p }) (drop l.j (refs_in l.ys)))
+abbrev pub invariant-loop-y : goal.invariant-loop-y
+invariant-loop-y l = past (pair_ref l.x) (pair_refs l.left) ≡ past (pair_ref l.x) (pair_refs l.ys)
 
-abbrev pub decreases-loop-k : goal.decreases-loop-k
-decreases-loop-k l = length l.ys / 2 - l.k
+abbrev pub decreases-loop-y : goal.decreases-loop-y
+decreases-loop-y l = length l.left

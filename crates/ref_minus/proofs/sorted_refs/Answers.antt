@@ -1,25 +1,18 @@
-use Prim.Native.Nat.{◌*◌}
-use lib.ListN.{length}
-use mathlib.Core.Path.{sym}
-use mathlib.Core.List.{[], ◌∷◌}
-use lib.Seq.{length-take-le}
-use Rattle.item.specs.Items.{items}
-use Rattle.ref_sort.proofs.Pairs.{take-few}
-use Rattle.ref_minus.proofs.Turns.{lines-few, lines-room, part-sorted}
+use mathlib.Core.Path.{◌∙◌, sym, ap}
 use native.Mathlib.Omega.{arith}
+use lib.ListN.{length}
+use Rattle.item.specs.Reading.{left}
+use Rattle.ref_minus.proofs.Turns.{collecting_first, collecting_over, collecting_more, collecting_done}
 use Rattle.ref_minus.proofs.sorted_refs.Goals as goal
 
-pub overflow_mul-end : goal.overflow_mul-end
-overflow_mul-end c = let a = c.args in omega (arith, lines-room (a.one ∷ a.two ∷ []) (items a.list.now) a.buf.now _ _ c.collect-n.ensures c.requires.0, c.collect-n.auto)
+pub loop-item-init : goal.loop-item-init
+loop-item-init c = collecting_first _ _ _ _ (ap left c.into_iter-item-iterator.ensures.into_iter_gives ∙ c.items-item-items.ensures.1)
 
-pub slice_bounds-sort_refs-end : goal.slice_bounds-sort_refs-end
-slice_bounds-sort_refs-end c = let a = c.args in lines-room (a.one ∷ a.two ∷ []) (items a.list.now) a.buf.now _ _ c.collect-n.ensures c.requires.0
+pub loop-item-preserved-then-not-is_among : goal.loop-item-preserved-then-not-is_among
+loop-item-preserved-then-not-is_among c = collecting_over _ _ _ _ _ _ _ c.loop-item.invariant c.in-Some.ensures.steps (sym c.if-not-is_among.true ∙ c.is_among.ensures)
 
-pub slice_bounds-sort_refs-end-2 : goal.slice_bounds-sort_refs-end-2
-slice_bounds-sort_refs-end-2 c = let a = c.args in sym (length-take-le _ _ (lines-room (a.one ∷ a.two ∷ []) (items a.list.now) a.buf.now _ _ c.collect-n.ensures c.requires.0))
-
-pub sort_refs-requires : goal.sort_refs-requires
-sort_refs-requires c = let a = c.args in take-few (c.collect-n.result * 2) (length a.spare.now) _ (omega (arith, lines-few (a.one ∷ a.two ∷ []) (items a.list.now) a.buf.now _ _ c.collect-n.ensures c.requires.0, c.requires.0, c.requires.1))
+pub loop-item-preserved : goal.loop-item-preserved
+loop-item-preserved c = collecting_more _ _ _ _ _ _ _ c.loop-item.invariant c.in-Some.ensures.steps (sym c.if-not-is_among.false ∙ c.is_among.ensures) (omega (arith, c.loop-item.invariant.few, ap length c.in-Some.ensures.steps)) _ (λ i. record { start = c.extent_start.ensures i; offset = c.reference.ensures i })
 
 pub returns : goal.returns
-returns c = let a = c.args in (lines-few (a.one ∷ a.two ∷ []) (items a.list.now) a.buf.now _ _ c.collect-n.ensures c.requires.0, part-sorted (a.one ∷ a.two ∷ []) (items a.list.now) a.buf.now _ _ c.collect-n.ensures c.requires.0 _ c.sort_refs.ensures)
+returns c = collecting_done _ _ _ _ _ c.loop-item.invariant c.in-None.ensures.steps.0 _ (omega (arith, c.loop-item.invariant.few)) c.sort_refs.ensures.sorted c.sort_refs.ensures.len
