@@ -1,70 +1,62 @@
 -- What one turn of each loop does. Assumes nothing.
 use mathlib.Core.Path.{◌≡◌, refl, ap, ◌∙◌, sym}
 use mathlib.Core.Bool.{Bool, true, false, cond, not, ◌&&◌}
-use mathlib.Core.List.{List, [], ◌∷◌, ◌++◌, append_assoc, append-nil, map-append}
+use mathlib.Core.List.{List, [], ◌∷◌, ◌++◌}
 use Prim.Native.Nat.{ℕ, ◌+◌, ◌<◌, ◌≤◌}
 use native.Mathlib.Omega.{arith}
 use lib.Dec.{eqb}
-use lib.ListN.{length, get_or, take, drop, set, drop_of_length-le}
-use lib.Seq.{take_at, length-take-le}
+use lib.ListN.{length-map, length, get_or, take, drop, set, set, drop_of_length-le}
 use lib.Pointwise.{pointwise}
 use borrow.Author.Tests.{not-true, not-false}
-use Rattle.std.proofs.lemmas.List.{at_drop_more, take_more_set, drop-map}
+use Rattle.std.proofs.lemmas.List.{at_drop_more, drop-map}
 use Rattle.ref_def.proofs.Compared.{minus_nil}
 use Rattle.records.specs.Select.{only, keep}
 use Rattle.records.proofs.Lists.{pairs-drop}
+use Rattle.records.proofs.Counts.{keep-length, count-length}
 use Rattle.item.specs.Items.{Fields}
 use Rattle.cut_def.specs.Refs.{Ref, ref_of}
-use Rattle.ref_def.specs.Compared.{among, ref_before, refs_among, sorted, minus}
+use Rattle.ref_def.specs.Compared.{among, ref_before, refs_among, minus}
 use Rattle.plan_def.specs.Outputs.{ref_numbers}
 use Rattle.plan_lines.specs.Lines.{Laid}
 use Rattle.plan_lines.proofs.Laws.{Going, going_first, going-turn, going_done}
 use Rattle.ref_sort.specs.Order.{upward, ordered, pair_ref, pair_refs}
 use Rattle.ref_sort.proofs.Order.{sorted-ordered}
+use Rattle.ref_sort.proofs.Filling.{Filling, filling_over, filling_room, filling_turn}
 use Rattle.ref_minus.specs.Walk.{refs_named, starts_with, past}
 use Rattle.ref_minus.proofs.Minus.{minus-turn, past-ordered}
 
--- ---- the references of a list in the first n pairs of a buffer, where those of `more` are still to come
+-- ---- the references of a list
 
-pub record Collecting (extents : List ℕ) (fs : List Fields) (n : ℕ) (buf : List (ℕ × ℕ)) (more : List Fields) : Type 0 where
-  pub few : n + length more ≤ length fs
-  pub whole : pair_refs (take n buf) ++ refs_named extents more ≡ refs_named extents fs
-
-pub collecting_first : (extents : List ℕ) (fs : List Fields) (buf : List (ℕ × ℕ)) (more : List Fields) → more ≡ fs → Collecting extents fs 0 buf more
-collecting_first extents fs buf more e = record { few = omega (arith, ap length e); whole = ap (refs_named extents) e }
-
-module _ (extents : List ℕ) (fs : List Fields) (n : ℕ) (buf : List (ℕ × ℕ)) (more : List Fields) (f : Fields) (rest : List Fields) (g : Collecting extents fs n buf more) (e : more ≡ f ∷ rest) where
-  pub collecting_over : false ≡ among extents f → Collecting extents fs n buf rest
+module _ (extents : List ℕ) (f : Fields) (fs : List Fields) where
+  named_over : false ≡ among extents f → refs_named extents (f ∷ fs) ≡ refs_named extents fs
   unfolding keep
-  collecting_over q =
-      let w : pair_refs (take n buf) ++ refs_named extents (f ∷ rest) ≡ refs_named extents fs = ap (λ (l : List Fields). pair_refs (take n buf) ++ refs_named extents l) (sym e) ∙ g.whole in
-      record { few = omega (arith, g.few, ap length e); whole = rw (← q) at w }
+  named_over e = rw (← e) refl
 
-  pub collecting_more : true ≡ among extents f → n < length buf → (p : ℕ × ℕ) → pair_ref p ≡ ref_of f → Collecting extents fs (n + 1) (set buf n p) rest
+  named_more : true ≡ among extents f → refs_named extents (f ∷ fs) ≡ ref_of f ∷ refs_named extents fs
   unfolding keep
-  collecting_more q h p r =
-      let w : pair_refs (take n buf) ++ refs_named extents (f ∷ rest) ≡ refs_named extents fs = ap (λ (l : List Fields). pair_refs (take n buf) ++ refs_named extents l) (sym e) ∙ g.whole in
-      let v : pair_refs (take n buf) ++ ref_of f ∷ refs_named extents rest ≡ refs_named extents fs = rw (← q) at w in
-      record {
-        few = omega (arith, g.few, ap length e);
-        whole =
-            ap (λ (l : List (ℕ × ℕ)). pair_refs l ++ refs_named extents rest) (take_more_set buf n p h)
-            ∙ ap (λ (l : List Ref). l ++ refs_named extents rest) (map-append pair_ref (take n buf) (p ∷ []))
-            ∙ append_assoc (pair_refs (take n buf)) (pair_ref p ∷ []) (refs_named extents rest)
-            ∙ ap (λ (x : Ref). pair_refs (take n buf) ++ x ∷ refs_named extents rest) r
-            ∙ v;
-      }
+  named_more e = rw (← e) refl
 
--- at the end they are sorted
-pub collecting_done :
-    (extents : List ℕ) (fs : List Fields) (n : ℕ) (buf : List (ℕ × ℕ)) (more : List Fields)
-    → Collecting extents fs n buf more → more ≡ []
-    → (part : List (ℕ × ℕ)) → n ≤ length buf → pair_refs part ≡ sorted (pair_refs (take n buf)) → length part ≡ length (take n buf)
-    → (n ≤ length fs) × (pair_refs (take n (part ++ drop n buf)) ≡ refs_among extents fs)
+pub named-few : (extents : List ℕ) (fs : List Fields) → length (refs_named extents fs) ≤ length fs
+named-few extents fs = omega (arith, length-map (keep (among extents) fs) ref_of, keep-length (among extents) fs, count-length (among extents) fs)
+
+-- a turn of the loop that collects them
+module _ (extents : List ℕ) (fs : List Fields) (n : ℕ) (buf : List (ℕ × ℕ)) (more : List Fields) (g : Filling (refs_named extents fs) n buf (refs_named extents more)) (f : Fields) (rest : List Fields) (e : more ≡ f ∷ rest) where
+  pub collect_over : false ≡ among extents f → Filling (refs_named extents fs) n buf (refs_named extents rest)
+  collect_over t = filling_over _ _ _ _ g _ (ap (refs_named extents) e ∙ named_over extents f rest t)
+
+  module _ (t : true ≡ among extents f) where
+    next : refs_named extents more ≡ ref_of f ∷ refs_named extents rest
+    next = ap (refs_named extents) e ∙ named_more extents f rest t
+
+    pub collect_room : n < length fs
+    collect_room = omega (arith, filling_room _ _ _ _ g _ _ next, named-few extents fs)
+
+    pub collect_turn : n < length buf → (p : ℕ × ℕ) → pair_ref p ≡ ref_of f → Filling (refs_named extents fs) (n + 1) (set buf n p) (refs_named extents rest)
+    collect_turn h p q = filling_turn _ _ _ _ g _ _ next h p q
+
+pub named_none : (extents : List ℕ) (fs : List Fields) → fs ≡ [] → refs_named extents fs ≡ []
 unfolding keep
-collecting_done extents fs n buf more g e part h s k =
-    let w : pair_refs (take n buf) ≡ refs_named extents fs = sym (append-nil (pair_refs (take n buf))) ∙ ap (λ (l : List Fields). pair_refs (take n buf) ++ refs_named extents l) (sym e) ∙ g.whole in
-    (omega (arith, g.few), ap pair_refs (take_at part (drop n buf) n (k ∙ length-take-le n buf h)) ∙ s ∙ ap sorted w)
+named_none extents fs e = rw e refl
 
 -- ---- pairs of numbers, compared
 

@@ -1,18 +1,35 @@
 use mathlib.Core.Path.{◌∙◌, sym, ap}
+use mathlib.Core.List.{[], ◌∷◌}
 use native.Mathlib.Omega.{arith}
+use Prim.Native.Nat.{◌≤◌}
 use lib.ListN.{length}
+use Rattle.item.specs.Items.{items}
 use Rattle.item.specs.Reading.{left}
-use Rattle.ref_minus.proofs.Turns.{collecting_first, collecting_over, collecting_more, collecting_done}
+use Rattle.ref_sort.proofs.Filling.{filling_all, filled_lines, filled_sorted}
+use Rattle.ref_minus.specs.Walk.{refs_named}
+use Rattle.ref_minus.proofs.Turns.{collect_over, collect_room, collect_turn, named_none, named-few}
 use Rattle.ref_minus.proofs.sorted_refs.Goals as goal
 
 pub loop-item-init : goal.loop-item-init
-loop-item-init c = collecting_first _ _ _ _ (ap left c.into_iter-item-iterator.ensures.into_iter_gives ∙ c.items-item-items.ensures.1)
+loop-item-init c = filling_all _ _ _ (ap (λ r. refs_named (c.args.one ∷ c.args.two ∷ []) (left r)) c.into_iter-item-iterator.ensures.into_iter_gives ∙ ap (refs_named _) c.items-item-items.ensures.1)
 
 pub loop-item-preserved-then-not-is_among : goal.loop-item-preserved-then-not-is_among
-loop-item-preserved-then-not-is_among c = collecting_over _ _ _ _ _ _ _ c.loop-item.invariant c.in-Some.ensures.steps (sym c.if-not-is_among.true ∙ c.is_among.ensures)
+loop-item-preserved-then-not-is_among c = collect_over _ _ _ _ _ c.loop-item.invariant _ _ c.in-Some.ensures.steps (sym c.if-not-is_among.true ∙ c.is_among.ensures)
+
+pub bounds-buf-n : goal.bounds-buf-n
+bounds-buf-n c = omega (arith, collect_room _ _ _ _ _ c.loop-item.invariant _ _ c.in-Some.ensures.steps (sym c.if-not-is_among.false ∙ c.is_among.ensures), c.requires)
 
 pub loop-item-preserved : goal.loop-item-preserved
-loop-item-preserved c = collecting_more _ _ _ _ _ _ _ c.loop-item.invariant c.in-Some.ensures.steps (sym c.if-not-is_among.false ∙ c.is_among.ensures) (omega (arith, c.loop-item.invariant.few, ap length c.in-Some.ensures.steps)) _ (λ i. record { start = c.extent_start.ensures i; offset = c.reference.ensures i })
+loop-item-preserved c =
+    let e = c.in-Some.ensures.steps in
+    let t = sym c.if-not-is_among.false ∙ c.is_among.ensures in
+    let m = collect_room _ _ _ _ _ c.loop-item.invariant _ _ e t in
+    collect_turn _ _ _ _ _ c.loop-item.invariant _ _ e t (omega (arith, m, c.requires)) _ (λ i. record { start = c.extent_start.ensures i; offset = c.reference.ensures i })
 
 pub returns : goal.returns
-returns c = collecting_done _ _ _ _ _ c.loop-item.invariant c.in-None.ensures.steps.0 _ (omega (arith, c.loop-item.invariant.few)) c.sort_refs.ensures.sorted c.sort_refs.ensures.len
+returns c =
+    let e = c.args.one ∷ c.args.two ∷ [] in
+    let g = c.loop-item.invariant in
+    let z = named_none e _ c.in-None.ensures.steps.0 in
+    let k : c.loop-item.n ≤ length (items c.args.list.now) = omega (arith, filled_lines _ _ _ _ g z, named-few e (items c.args.list.now)) in
+    (k, filled_sorted _ _ _ _ g z _ (omega (arith, k, c.requires)) c.sort_refs.ensures.sorted c.sort_refs.ensures.len)
