@@ -1,10 +1,10 @@
 -- The adds' extents copied as pairs, and what their order says. Assumes nothing.
 use mathlib.Core.Path.{◌≡◌, refl, ap, ◌∙◌, sym}
 use mathlib.Core.Bool.{Bool, true, false, ◌||◌, false≢true}
-use mathlib.Core.List.{List, [], ◌∷◌, ◌++◌, map}
+use mathlib.Core.List.{List, [], ◌∷◌, map}
 use Rattle.std.proofs.lemmas.List.{take-map}
 use native.Mathlib.Numerals.{add-one}
-use Prim.Native.Nat.{ℕ, ◌+◌, ◌*◌, ◌≤◌, ◌<◌}
+use Prim.Native.Nat.{ℕ, ◌+◌, ◌≤◌, ◌<◌}
 use native.Mathlib.Omega.{arith}
 use lib.Dec.{leb}
 use lib.ListN.{length, get_or, get_or-map, drop, take, length-map, drop_of_length-le}
@@ -15,13 +15,11 @@ use Rattle.records.proofs.Lists.{pairs-take}
 use Rattle.cut_def.specs.Refs.{Ref}
 use Rattle.plan_def.specs.Plans.{Add}
 use Rattle.plan_def.specs.Places.{places_apart}
-use Rattle.plan_def.specs.Outputs.{ref_numbers}
-use Rattle.plan_def.specs.ReadBack.{add_in, refs_in}
-use Rattle.plan_lines.specs.Lines.{Laid}
-use Rattle.plan_lines.proofs.Laws.{Going, going_first, going-turn, going_done}
-use Rattle.plan_lines.proofs.Loops.{going_length, laid-length}
-use Rattle.plan_apart.specs.Spacing.{apart, extent_of, extent_numbers}
-use Rattle.plan_apart.proofs.Buffers.{laid-extent, extents-apart}
+use Rattle.plan_def.specs.ReadBack.{add_in}
+use Rattle.ref_sort.specs.Order.{pair_refs}
+use Rattle.ref_sort.proofs.Filling.{Filling, filled}
+use Rattle.plan_apart.specs.Spacing.{apart, extent_of}
+use Rattle.plan_apart.proofs.Adds.{extents-apart}
 use Rattle.apply_clear.specs.Clear.{adds_apart}
 
 -- those from number k on
@@ -29,63 +27,35 @@ cons-at : (cs : List (List ℕ)) (k : ℕ) → k < length cs → drop k (map add
 cons-at cs k h =
     rw (add-one, drop-cons (map add_in cs) k (add_in []) (rw length-map (omega arith)), get_or-map add_in cs k []) refl
 
-module _ (cs : List (List ℕ)) (out₀ : List ℕ) where
-  abbrev adds : List Add
-  adds = map add_in cs
+module _ (cs : List (List ℕ)) (k : ℕ) where
+  pub extents_more : k < length cs → map extent_of (drop k (map add_in cs)) ≡ extent_of (add_in (get_or cs k [])) ∷ map extent_of (drop (k + 1) (map add_in cs))
+  extents_more h = ap (map extent_of) (cons-at cs k h)
 
-  -- those from number k on, appended to the output as it is, give all
-  pub record Copying (k m : ℕ) (out : List ℕ) : Type 0 where
-    pub going : Going extent_numbers 2 0 adds out₀ m (drop k adds) out
+  extents_none : length cs ≤ k → map extent_of (drop k (map add_in cs)) ≡ []
+  extents_none h = ap (map extent_of) (drop_of_length-le (map add_in cs) {i = k} (omega (arith, length-map cs add_in)))
 
-  pub copying_all : Copying 0 0 out₀
-  copying_all = record { going = going_first extent_numbers 2 0 adds out₀ }
+  pub extents_filled : (buf : List (ℕ × ℕ)) → Filling (map extent_of (map add_in cs)) k buf (map extent_of (drop k (map add_in cs))) → length cs ≤ k → k ≤ length cs
+      → pair_refs (take (length cs) buf) ≡ map extent_of (map add_in cs)
+  extents_filled buf g h l =
+      let e : length cs ≡ k = omega arith in
+      rw e (filled (map extent_of (map add_in cs)) k buf (map extent_of (drop k (map add_in cs))) g (extents_none h))
 
-  module _ (k m : ℕ) (out : List ℕ) (g : Copying k m out) where
-    -- a turn
-    module _ (h : k < length cs) where
-      here : Going extent_numbers 2 0 adds out₀ m ((add_in (get_or cs k []) ∷ []) ++ drop (k + 1) adds) out
-      here = rw (cons-at cs k h) at g.going
+  pub is-extent : ◌≡◌ {A = Ref} (record { start = get_or (get_or cs k []) 0 0; offset = get_or (get_or cs k []) 1 0 }) (extent_of (add_in (get_or cs k [])))
+  unfolding add_in
+  is-extent = refl
 
-      pub copying-room : m + 1 ≤ length cs
-      copying-room = omega (arith, here.lines, length-map cs add_in)
+-- either way round
+turned : (a b : Add) → places_apart a b ≡ adds_apart a b
+turned a b = go (leb (a.start + a.length) b.start) (leb (b.start + b.length) a.start)
+  where
+    go : (x y : Bool) → (x || y) ≡ (y || x)
+    go true true = refl
+    go true false = refl
+    go false true = refl
+    go false false = refl
 
-      is-extent : ◌≡◌ {A = Ref} (record { start = get_or (get_or cs k []) 0 0; offset = get_or (get_or cs k []) 1 0 }) (extent_of (add_in (get_or cs k [])))
-      unfolding add_in
-      is-extent = refl
-
-      pub copying-turn : (m' : ℕ) (out' : List ℕ) → Laid ref_numbers 2 m (record { start = get_or (get_or cs k []) 0 0; offset = get_or (get_or cs k []) 1 0 } ∷ []) out m' out' → Copying (k + 1) m' out'
-      copying-turn m' out' l =
-          record { going = going-turn extent_numbers 2 0 adds out₀ m (add_in (get_or cs k []) ∷ []) (drop (k + 1) adds) out m' out' here (laid-extent m _ _ out m' out' is-extent l) }
-
-    pub copying-done : length cs ≤ k → Laid extent_numbers 2 0 adds out₀ m out
-    copying-done h = going_done extent_numbers 2 0 adds out₀ m out (rw (drop_of_length-le adds {i = k} (omega (arith, length-map cs add_in))) at g.going)
-
-    pub copying-length : length out ≡ length out₀
-    copying-length = going_length extent_numbers 2 (omega arith) (λ a. refl) 0 adds out₀ m (drop k adds) out g.going
-
--- ---- what was copied, where there is room for it
-
-module _ (cs : List (List ℕ)) (out : List ℕ) (m : ℕ) (out' : List ℕ) (h : Laid extent_numbers 2 0 (map add_in cs) out m out') (room : length cs * 2 ≤ length out) where
-  pub copied-length : length out' ≡ length out
-  copied-length = laid-length extent_numbers 2 (omega arith) (λ a. refl) 0 (map add_in cs) out m out' h
-
-  pub copied-room : m * 2 ≤ length out'
-  copied-room = omega (arith, h.lines, length-map cs add_in, copied-length)
-
-  -- either way round
-  turned : (a b : Add) → places_apart a b ≡ adds_apart a b
-  turned a b = go (leb (a.start + a.length) b.start) (leb (b.start + b.length) a.start)
-    where
-      go : (x y : Bool) → (x || y) ≡ (y || x)
-      go true true = refl
-      go true false = refl
-      go false true = refl
-      go false false = refl
-
-  pub copied-apart : pairs apart (refs_in (take (m * 2) out')) ≡ pairs adds_apart (map add_in cs)
-  copied-apart =
-      extents-apart (map add_in cs) out m out' h (omega (arith, length-map cs add_in))
-      ∙ ap (λ (p : Add → Add → Bool). pairs p (map add_in cs)) (λ i a b. turned a b i)
+pub copied-apart : (l : List Add) (rs : List Ref) → rs ≡ map extent_of l → pairs apart rs ≡ pairs adds_apart l
+copied-apart l rs e = extents-apart l rs e ∙ ap (λ (p : Add → Add → Bool). pairs p l) (λ i a b. turned a b i)
 
 -- ---- the first half
 

@@ -8,8 +8,6 @@ ghost use Rattle.records.specs.Stages.{unless, every, pairs};
 ghost use Rattle.table.specs.Rows.{rows, table_kept};
 ghost use Rattle.plan_def.specs.ReadBack.{add_in, adds_in};
 ghost use Rattle.plan_def.specs.Places.{clear};
-ghost use Rattle.plan_lines.specs.Lines.{Laid};
-ghost use Rattle.plan_apart.specs.Spacing.{extent_numbers};
 ghost use Rattle.apply_clear.specs.Clear.{clear_from, clear_of, add_alone, adds_apart, adds_fit};
 
 use plan_places::is_clear;
@@ -85,36 +83,26 @@ fn plain_apart(adds: &[[u64; 3]]) -> bool
     true
 }
 
-// The adds' extents, each as a pair of its start and length.
-fn put_extents(adds: &[[u64; 3]], out: &mut [u64]) -> usize
-    ensures { Laid extent_numbers 2 0 (map add_in adds.now) out.old result out.new }
-{
-    let mut m = 0;
-    for add in adds {
-        m = plan_lines::put_ref(out, m, add[0], add[1]);
-    }
-    m
-}
-
-// Whether every two adds share no byte, sorted in lent buffers.
-fn sorted_apart(adds: &[[u64; 3]], xs: &mut [u64], spare: &mut [u64]) -> bool
-    requires { (length adds.now * 2 ≤ length xs.old) × (length xs.old ≤ length spare.old) }
+// Whether every two adds share no byte: their extents, each as a pair of its start and length, sorted in a lent buffer.
+fn sorted_apart(adds: &[[u64; 3]], extents: &mut [(u64, u64)]) -> bool
+    requires { length adds.now ≤ length extents.old }
     ensures { result ≡ pairs adds_apart (map add_in adds.now) }
 {
-    let n = put_extents(adds, xs);
-    plan_apart::are_apart(xs, n, spare)
+    for (k, add) in adds.iter().enumerate() {
+        extents[k] = (add[0], add[1]);
+    }
+    plan_apart::are_apart(&mut extents[..adds.len()])
 }
 
-// The same with buffers of its own, each of N numbers: small ones take less time to zero. They stay out of its callers, whose
-// every call would pay for them.
+// The same with a buffer of its own, for N adds: a small one takes less time to zero. It stays out of its callers, whose every
+// call would pay for it.
 #[inline(never)]
 fn apart_within<const N: usize>(adds: &[[u64; 3]]) -> bool
-    requires { (length adds.now * 2 ≤ N) × (N ≤ 131072) }
+    requires { (length adds.now ≤ N) × (N ≤ 65536) }
     ensures { result ≡ pairs adds_apart (map add_in adds.now) }
 {
-    let mut xs = [0u64; N];
-    let mut spare = [0u64; N];
-    sorted_apart(adds, &mut xs, &mut spare)
+    let mut extents = [(0u64, 0u64); N];
+    sorted_apart(adds, &mut extents)
 }
 
 // Whether every two adds share no byte. Few are compared by pairs; so are very many, if the first half passes.
@@ -126,13 +114,13 @@ fn are_adds_apart(adds: &[[u64; 3]]) -> bool
         return plain_apart(adds);
     }
     if n <= 1024 {
-        return apart_within::<2048>(adds);
+        return apart_within::<1024>(adds);
     }
     if n <= 8192 {
-        return apart_within::<16384>(adds);
+        return apart_within::<8192>(adds);
     }
     if n <= 65536 {
-        return apart_within::<131072>(adds);
+        return apart_within::<65536>(adds);
     }
     are_adds_apart(&adds[..n / 2]) && plain_apart(adds)
 }

@@ -5,7 +5,7 @@ use mathlib.Core.List.{List, [], ◌∷◌, ◌++◌, map}
 use Prim.Native.Nat.{ℕ, zero, suc, ◌+◌, ◌/◌, ◌≤◌, ◌<◌}
 use native.Mathlib.Omega.{arith}
 use native.Mathlib.Numerals.{add-one}
-use lib.ListN.{length, get_or, take, drop, length-drop, length-map, drop_of_length-le}
+use lib.ListN.{length, get_or, take, drop, set, length-drop, length-map, drop_of_length-le}
 use lib.Seq.{drop-cons, length-take-le}
 use borrow.Author.Tests.{eq-eqb}
 use Rattle.records.specs.Stages.{unless, first, every, pairs}
@@ -18,6 +18,10 @@ use Rattle.plan_def.specs.Places.{Wanted, placed, place_sound, places_apart, pla
 use Rattle.plan_lines.specs.Lines.{Laid}
 use Rattle.plan_lines.proofs.Laws.{Going, going_first, going-turn, going_done}
 use Rattle.plan_lines.proofs.Loops.{going_length}
+use Rattle.ref_sort.specs.Order.{pair_refs}
+use Rattle.ref_sort.proofs.Filling.{Filling, filling_all, filling_turn, filled}
+use Rattle.plan_apart.specs.Spacing.{apart, extent_of}
+use Rattle.plan_apart.proofs.Adds.{extents-apart}
 use Rattle.change_def.specs.Preallocs.{Stretch}
 use Rattle.change_holes.specs.declared.NewExtents.{NewExtents}
 use Rattle.change_holes.specs.declared.Cursor.{Cursor}
@@ -136,6 +140,28 @@ module _ (w : NewExtents) (fs : List Fields) (ps : List ℕ) where
 
       pub adding_length : 0 < v → ((a : Add) → length (f a) ≡ v) → length out ≡ length out₀
       adding_length pos wide = going_length f v pos wide 0 all out₀ m (ahead n c) out g.going
+
+  -- ---- the loop that writes their extents as pairs
+
+  pub record Pairing (n : ℕ) (c : Cursor) (buf : List (ℕ × ℕ)) : Type 0 where
+    pub even : Even n c
+    pub filling : Filling (map extent_of all) n buf (map extent_of (ahead n c))
+
+  pub pairing_all : (c : Cursor) (buf : List (ℕ × ℕ)) → c ≡ record { rest = record { start = 0; stop = 0 }; next = 0 } → length ps ≤ length (wishes w fs) → Pairing 0 c buf
+  pairing_all c buf e h = record { even = even_all c e h; filling = filling_all (map extent_of all) buf (map extent_of (ahead 0 c)) (ap (map extent_of) (ahead_all c e)) }
+
+  module _ (n : ℕ) (c : Cursor) (buf : List (ℕ × ℕ)) (g : Pairing n c buf) where
+    pub pairing_turn : (s : Step) → n < length ps → Walked w fs c s → n < length buf → Pairing (n + 1) s.after (set buf n (get_or ps n 0, s.length))
+    pairing_turn s h k room =
+        record {
+          even = even_next n c s g.even h k;
+          filling = filling_turn (map extent_of all) n buf (map extent_of (ahead n c)) g.filling (extent_of (add_of n s)) (map extent_of (ahead (n + 1) s.after)) (ap (map extent_of) (ahead_cons n c s g.even h k)) room (get_or ps n 0, s.length) refl;
+        }
+
+    pub pairing_done : length ps ≤ n → n ≤ length ps → pairs apart (pair_refs (take (length ps) buf)) ≡ pairs places_apart all
+    pairing_done h l =
+        let e : length ps ≡ n = omega arith in
+        extents-apart all (pair_refs (take (length ps) buf)) (rw e (filled (map extent_of all) n buf (map extent_of (ahead n c)) g.filling (ap (map extent_of) (ahead_none n c h))))
 
 -- the tests of a first add and those behind it
 pub every_cons : (p : Add → Bool) (a : Add) (l : List Add) → every p (a ∷ l) ≡ (p a && every p l)

@@ -9,7 +9,6 @@ ghost use Rattle.table.specs.Rows.{rows, table_kept};
 ghost use Rattle.plan_def.specs.Places.{placed, place_sound, places_apart, places_sound};
 ghost use Rattle.plan_def.specs.Outputs.{add_numbers};
 ghost use Rattle.plan_lines.specs.Lines.{Laid};
-ghost use Rattle.plan_apart.specs.Spacing.{extent_numbers};
 ghost use Rattle.change_holes.specs.Walk.{Ends, wishes, left};
 ghost use Rattle.change_places.specs.Wishes.{wanted_of, add_at};
 
@@ -78,68 +77,35 @@ fn plain_refusal(w: NewExtents, list: &[u8], places: &[u64]) -> u8
     0
 }
 
-// The extents at their places, each as a pair of its start and length.
-fn put_extents(w: NewExtents, list: &[u8], places: &[u64], out: &mut [u64]) -> usize
-    requires { Ends (items list.now) × (length places.now ≤ length (wishes w (items list.now))) }
-    ensures { Laid extent_numbers 2 0 (placed places.now (map wanted_of (wishes w (items list.now)))) out.old result out.new }
+// Refusal 26 of each two places: the extents at their places, each as a pair of its start and length, sorted in a lent buffer.
+fn sorted_refusal(w: NewExtents, list: &[u8], places: &[u64], extents: &mut [(u64, u64)]) -> u8
+    requires { Ends (items list.now) × (length places.now ≤ length (wishes w (items list.now))) × (length places.now ≤ length extents.old) }
+    ensures { result ≡ unless (pairs places_apart (placed places.now (map wanted_of (wishes w (items list.now))))) 26 }
 {
     let mut c = change_holes::walk_start();
-    let mut k = 0;
-    for n in 0..places.len() {
+    for (n, place) in places.iter().enumerate() {
         let step = change_holes::next_piece(w, list, c);
-        k = plan_lines::put_ref(out, k, places[n], step.length);
+        extents[n] = (*place, step.length);
         c = step.after;
     }
-    k
+    unless(
+        plan_apart::are_apart(&mut extents[..places.len()]),
+        refusal::PLACE,
+    )
 }
 
-// Refusal 26 of each two places, sorted in lent buffers.
-fn sorted_refusal(
-    w: NewExtents,
-    list: &[u8],
-    places: &[u64],
-    xs: &mut [u64],
-    spare: &mut [u64],
-) -> u8
-    requires { Ends (items list.now) × (length places.now ≤ length (wishes w (items list.now))) × (length places.now * 2 ≤ length xs.old) × (length xs.old ≤ length spare.old) }
+// The same with a buffer of its own, for up to N places: a small one takes less time to zero. It is not built into its caller,
+// whose every call would pay for it.
+#[inline(never)]
+fn sized_refusal<const N: usize>(w: NewExtents, list: &[u8], places: &[u64]) -> u8
+    requires { Ends (items list.now) × (length places.now ≤ length (wishes w (items list.now))) × (length places.now ≤ N) × (N ≤ 65536) }
     ensures { result ≡ unless (pairs places_apart (placed places.now (map wanted_of (wishes w (items list.now))))) 26 }
 {
-    let n = put_extents(w, list, places, xs);
-    unless(plan_apart::are_apart(xs, n, spare), refusal::PLACE)
+    let mut extents = [(0u64, 0u64); N];
+    sorted_refusal(w, list, places, &mut extents)
 }
 
-// The same with buffers of its own, for up to 1,024 places: small ones take less time to zero.
-fn few_refusal(w: NewExtents, list: &[u8], places: &[u64]) -> u8
-    requires { Ends (items list.now) × (length places.now ≤ length (wishes w (items list.now))) × (length places.now ≤ 1024) }
-    ensures { result ≡ unless (pairs places_apart (placed places.now (map wanted_of (wishes w (items list.now))))) 26 }
-{
-    let mut xs = [0u64; 2048];
-    let mut spare = [0u64; 2048];
-    sorted_refusal(w, list, places, &mut xs, &mut spare)
-}
-
-// For up to 8,192.
-fn several_refusal(w: NewExtents, list: &[u8], places: &[u64]) -> u8
-    requires { Ends (items list.now) × (length places.now ≤ length (wishes w (items list.now))) × (length places.now ≤ 8192) }
-    ensures { result ≡ unless (pairs places_apart (placed places.now (map wanted_of (wishes w (items list.now))))) 26 }
-{
-    let mut xs = [0u64; 16384];
-    let mut spare = [0u64; 16384];
-    sorted_refusal(w, list, places, &mut xs, &mut spare)
-}
-
-// For up to 65,536.
-fn many_refusal(w: NewExtents, list: &[u8], places: &[u64]) -> u8
-    requires { Ends (items list.now) × (length places.now ≤ length (wishes w (items list.now))) × (length places.now ≤ 65536) }
-    ensures { result ≡ unless (pairs places_apart (placed places.now (map wanted_of (wishes w (items list.now))))) 26 }
-{
-    let mut xs = [0u64; 131072];
-    let mut spare = [0u64; 131072];
-    sorted_refusal(w, list, places, &mut xs, &mut spare)
-}
-
-// Refusal 26 of each two places. Few are compared by pairs; so are very many, if the first half is not refused. As the function
-// calls itself, the compiler leaves the buffers to the functions that have them: within a caller they would cost every call.
+// Refusal 26 of each two places. Few are compared by pairs; so are very many, if the first half is not refused.
 fn pairs_refusal(w: NewExtents, list: &[u8], places: &[u64]) -> u8
     requires { Ends (items list.now) × (length places.now ≤ length (wishes w (items list.now))) }
     ensures { result ≡ unless (pairs places_apart (placed places.now (map wanted_of (wishes w (items list.now))))) 26 }
@@ -149,13 +115,13 @@ fn pairs_refusal(w: NewExtents, list: &[u8], places: &[u64]) -> u8
         return plain_refusal(w, list, places);
     }
     if n <= 1024 {
-        return few_refusal(w, list, places);
+        return sized_refusal::<1024>(w, list, places);
     }
     if n <= 8192 {
-        return several_refusal(w, list, places);
+        return sized_refusal::<8192>(w, list, places);
     }
     if n <= 65536 {
-        return many_refusal(w, list, places);
+        return sized_refusal::<65536>(w, list, places);
     }
     let why = pairs_refusal(w, list, &places[..n / 2]);
     if why != 0 {

@@ -1,12 +1,14 @@
-use mathlib.Core.Path.{◌∙◌}
+use mathlib.Core.Path.{◌∙◌, refl}
 use native.Mathlib.Omega.{arith}
-use Rattle.apply_clear.proofs.Extents.{copied-length, copied-room, copied-apart}
+use Rattle.ref_sort.proofs.Filling.{filling_all, filling_turn}
+use Rattle.apply_clear.proofs.Extents.{extents_more, extents_filled, is-extent, copied-apart}
 use Rattle.apply_clear.proofs.sorted_apart.Goals as goal
 
-pub are_apart-requires : goal.are_apart-requires
-are_apart-requires c = let e = c.put_extents-n.ensures in
-    let s = c.args.adds.now in
-    (copied-room s _ _ _ e c.requires.0, omega (arith, copied-length s _ _ _ e c.requires.0, c.requires.1))
+pub loop-k-init : goal.loop-k-init
+loop-k-init c = filling_all _ _ _ refl
+
+pub loop-k-preserved : goal.loop-k-preserved
+loop-k-preserved c = filling_turn _ _ _ _ c.loop-k.invariant _ _ (extents_more c.args.adds.now c.loop-k.k c.loop-k-test.true) (omega arith) _ (is-extent c.args.adds.now c.loop-k.k)
 
 pub returns : goal.returns
-returns c = c.are_apart.ensures ∙ copied-apart c.args.adds.now _ _ _ c.put_extents-n.ensures c.requires.0
+returns c = c.are_apart.ensures ∙ copied-apart _ _ (extents_filled c.args.adds.now c.loop-k.k _ c.loop-k.invariant c.loop-k-test.false c.loop-k.auto.k-end)

@@ -1,21 +1,19 @@
 use mathlib.Core.Bool.{Bool}
-use mathlib.Core.List.{map}
-use mathlib.Core.Path.{◌∙◌, ap, refl}
+use mathlib.Core.Path.{◌∙◌, ap}
 use native.Mathlib.Omega.{arith}
 use Rattle.records.specs.Stages.{unless}
 use Rattle.item.specs.Items.{items}
-use Rattle.plan_lines.proofs.Loops.{laid-length}
-use Rattle.plan_apart.specs.Spacing.{extent_numbers}
-use Rattle.plan_apart.proofs.Buffers.{extents-apart}
-use Rattle.change_holes.specs.Walk.{wishes}
-use Rattle.change_places.specs.Wishes.{wanted_of}
-use Rattle.change_places.proofs.Keys.{placed-most}
+use Rattle.change_places.proofs.Ahead.{pairing_all, pairing_turn, pairing_done}
 use Rattle.change_places.proofs.sorted_refusal.Goals as goal
 
-pub are_apart-requires : goal.are_apart-requires
-are_apart-requires c = let e = c.put_extents-n in
-    let l = laid-length extent_numbers 2 (omega arith) (λ x. refl) _ _ _ _ _ e.ensures in
-    (omega (arith, l, e.ensures.lines, placed-most c.args.places.now (map wanted_of (wishes c.args.w (items c.args.list.now))), c.requires.2), omega (arith, l, c.requires.3))
+pub loop-n-init : goal.loop-n-init
+loop-n-init c = pairing_all _ _ _ _ _ c.walk_start-c.ensures c.requires.1
+
+pub next_piece-step-requires : goal.next_piece-step-requires
+next_piece-step-requires c = c.requires.0
+
+pub loop-n-preserved : goal.loop-n-preserved
+loop-n-preserved c = pairing_turn _ _ _ _ _ _ c.loop-n.invariant c.next_piece-step.result c.loop-n-test.true c.next_piece-step.ensures (omega arith)
 
 pub returns : goal.returns
-returns c = c.unless.ensures ∙ ap (λ (b : Bool). unless b 26) (c.are_apart.ensures ∙ extents-apart _ _ _ _ c.put_extents-n.ensures (omega (arith, placed-most c.args.places.now (map wanted_of (wishes c.args.w (items c.args.list.now))), c.requires.2)))
+returns c = c.unless.ensures ∙ ap (λ (b : Bool). unless b 26) (c.are_apart.ensures ∙ pairing_done _ (items c.args.list.now) _ c.loop-n.n _ _ c.loop-n.invariant c.loop-n-test.false c.loop-n.auto.n-end)
