@@ -10,8 +10,12 @@ use lib.ListN.{length, get_or, take, drop, set, length-append, length-take, leng
 use lib.Seq.{take-suc, take-take, take_all, take-set-le, get_or-take}
 use borrow.Author.Tests.{ltb-true, ltb-false, leb-true, lt-ltb, le-leb, le-ltb}
 use Rattle.cut_def.proofs.Mappings.{items_kept}
+use Rattle.std.specs.List.{count_by}
+use Rattle.std.proofs.lemmas.List.Recursion.{is_count_by}
+use Rattle.std.specs.Simd.{first_chunks}
+use Rattle.records.specs.Records.{chunks, records}
 use Rattle.records.specs.Stages.{every, pairs}
-use Rattle.records.proofs.Loops.{records-length, records-at, records_cons, records_nil}
+use Rattle.records.proofs.Loops.{records-length, records-at}
 use Rattle.records.proofs.Tests.{both_left, both_right, every_map}
 use Rattle.records.proofs.Lists.{every_append, every_one, every_flat, pairs_parts, flat_append}
 use Rattle.item.specs.declared.Item.{Item}
@@ -123,11 +127,8 @@ over-true k (suc i) fs h =
     (omega arith, rw n (ltb-true k (get_or fs i nothing).key h))
 
 -- what the code reads
-pub over_none : (list : List ℕ) (i k : ℕ) → i ≡ 0 → false ≡ last_over k i (items list)
-over_none list i k h = rw h refl
-
-pub over-some : (list : List ℕ) (i k : ℕ) (o : Item) → (i ≡ 0 → ⊥) → i ≤ length list / 70 → o ≡ item_of (drop ((i - 1) * 70) list) → ltb k o.key ≡ last_over k i (items list)
-over-some list zero k o h l e = absurd (h refl)
+pub over-some : (list : List ℕ) (i k : ℕ) (o : Item) → 0 < i → i ≤ length list / 70 → o ≡ item_of (drop ((i - 1) * 70) list) → ltb k o.key ≡ last_over k i (items list)
+over-some list zero k o h l e = absurd (omega arith)
 over-some list (suc i) k o h l e =
     let n : suc i - 1 ≡ i = omega arith in
     let f : fields o ≡ decode (drop (i * 70) list) = rw n at (item-decode o _ e) in
@@ -345,22 +346,32 @@ fill_done edits before olds at list p z =
 
 -- ---- how many are put
 
-pub puts-turn : (s : List ℕ) (j n m : ℕ) (b : Bool) → j < length s / 71 → b ≡ eqb (get_or (drop (j * 71) s) 0 0) 1 → m ≡ n + cond b 1 0 → m + length (puts_in (drop (j + 1) (edits_in s))) ≡ n + length (puts_in (drop j (edits_in s)))
-unfolding flat_map
-puts-turn s j n m b h q e = go b q e
+-- the tags of the edits, read chunk by chunk
+abbrev pub puts-one : List ℕ → Bool
+puts-one s = eqb (get_or s 0 0) 1
+
+tagged : List (List ℕ) → ℕ
+tagged [] = 0
+tagged (c ∷ cs) = cond (puts-one c) (1 + tagged cs) (tagged cs)
+
+puts_cons : (t : List ℕ) (es : List Edit) → length (puts_in (edit_in t ∷ es)) ≡ cond (eqb (get_or t 0 0) 1) (1 + length (puts_in es)) (length (puts_in es))
+unfolding flat_map edit_in
+puts_cons t es = go (eqb (get_or t 0 0) 1)
   where
-    es : List Edit
-    es = drop (j + 1) (edits_in s)
+    go : (b : Bool) → length (puts_in (cond b (put (decode (drop 1 t))) (delete (decode (drop 1 t)).key) ∷ es)) ≡ cond b (1 + length (puts_in es)) (length (puts_in es))
+    go true = omega arith
+    go false = refl
 
-    next : (e : Edit) → edit_in (drop (j * 71) s) ≡ e → puts_in (drop j (edits_in s)) ≡ put_of e ++ puts_in es
-    next e q = ap puts_in (records_cons edit_in 71 s j h ∙ ap (λ (d : Edit). d ∷ es) q)
+tagged_chunks : (n : ℕ) (t : List ℕ) → tagged (first_chunks 71 n t) ≡ length (puts_in (chunks edit_in 71 n t))
+unfolding chunks flat_map tagged
+tagged_chunks zero t = refl
+tagged_chunks (suc n) t =
+    ap₂ (λ (k m : ℕ). cond (eqb k 1) (1 + m) m) (get_or-take 71 t 0 0 (omega arith)) (tagged_chunks n (drop 71 t))
+    ∙ sym (puts_cons t (chunks edit_in 71 n (drop 71 t)))
 
-    go : (b : Bool) → b ≡ eqb (get_or (drop (j * 71) s) 0 0) 1 → m ≡ n + cond b 1 0 → m + length (puts_in es) ≡ n + length (puts_in (drop j (edits_in s)))
-    go true q e = omega (arith, ap length (next _ (put_read (drop (j * 71) s) (sym q))))
-    go false q e = omega (arith, ap length (next _ (delete_read (drop (j * 71) s) (sym q))))
-
-pub puts-done : (s : List ℕ) (j n : ℕ) → length s / 71 ≤ j → n + length (puts_in (drop j (edits_in s))) ≡ n
-puts-done s j n h = ap (λ (es : List Edit). n + length (puts_in es)) (records_nil edit_in 71 s j h) ∙ (unfold flat_map in add-zero n)
+pub puts_counted : (s : List ℕ) → count_by puts-one (first_chunks 71 (length s / 71) s) ≡ length (puts_in (edits_in s))
+unfolding records tagged
+puts_counted s = sym (is_count_by tagged puts-one refl (λ c cs. refl) (first_chunks 71 (length s / 71) s)) ∙ tagged_chunks (length s / 71) s
 
 pub fill_result : (edits before : List ℕ) (n end : ℕ) (at : PassCursor) (list : List ℕ) → n ≤ length before / 70 → end ≡ n + length (puts_in (edits_in edits)) → Filling edits before (take n (items before)) at list → at.j ≡ 0
     → items list ≡ merged (take n (items before)) (edits_in edits) ++ drop end (items before)

@@ -1,15 +1,16 @@
 -- Front to back: the records that no edit names, one by one. Assumes nothing.
 use mathlib.Core.Path.{◌≡◌, refl, ap, ap₂, ◌∙◌, sym}
-use mathlib.Core.Bool.{Bool, true, false, false≢true}
+use mathlib.Core.Bool.{true, false}
 use mathlib.Core.List.{List, [], ◌∷◌, ◌++◌, append_assoc, append-nil}
 use Prim.Native.Nat.{ℕ, suc, ◌+◌, ◌*◌, ◌/◌, ◌≤◌, ◌<◌, min}
 use native.Mathlib.Omega.{arith}
 use native.Mathlib.Decide.{dec_lt}
 use native.Mathlib.Numerals.{add-one}
-use lib.Dec.{eqb, ltb}
+use lib.Dec.{eqb}
 use lib.ListN.{length, get_or, take, drop, length-take, drop_of_length-le}
 use lib.Seq.{drop-cons, drop-drop, get_or-take}
-use borrow.Author.Tests.{ltb-true, ltb-false, eqb-false}
+use borrow.Author.Tests.{eq-eqb}
+use Rattle.std.specs.Prelude.{Some, None}
 use Rattle.records.specs.Select.{keep, any}
 use Rattle.records.specs.Stages.{pairs}
 use Rattle.records.proofs.Loops.{records_cons, records_nil}
@@ -26,7 +27,7 @@ use Rattle.plan_def.specs.ReadBack.{edit_in, edits_in}
 use Rattle.apply_def.proofs.Buffers.{same_self, same-put, behind-at, behind_more, front-more}
 use Rattle.apply_walk.proofs.Merge.{key_read}
 use Rattle.apply_items.specs.declared.PassCursor.{PassCursor}
-use Rattle.apply_items.specs.Passes.{IsPut, unnamed, next_below, next_at, Packing, Packed}
+use Rattle.apply_items.specs.Passes.{IsPut, unnamed, next_key, Packing, Packed}
 
 -- ---- the next edit
 
@@ -37,47 +38,48 @@ module _ (s : List ℕ) (j : ℕ) where
   next-key : (f : Fields) → f ≡ decode (drop 1 (drop (j * 71) s)) → key_of (edit_in (drop (j * 71) s)) ≡ f.key
   next-key f e = key_read (drop (j * 71) s) ∙ sym (ap (λ (f : Fields). f.key) e)
 
-  pub below_none : (k : ℕ) → length s / 71 ≤ j → false ≡ next_below k next
-  below_none k h = ap (next_below k) (sym (records_nil edit_in 71 s j h))
+  pub key_none : length s / 71 ≤ j → None ≡ next_key next
+  key_none h = ap next_key (sym (records_nil edit_in 71 s j h))
 
-  pub below-some : (k : ℕ) (f : Fields) → j < length s / 71 → f ≡ decode (drop 1 (drop (j * 71) s)) → ltb f.key k ≡ next_below k next
-  below-some k f h e = ap (λ (n : ℕ). ltb n k) (sym (next-key f e)) ∙ ap (next_below k) (sym (records_cons edit_in 71 s j h))
+  pub key_some : (f : Fields) → j < length s / 71 → f ≡ decode (drop 1 (drop (j * 71) s)) → Some f.key ≡ next_key next
+  key_some f h e = ap (λ (n : ℕ). Some n) (sym (next-key f e)) ∙ ap next_key (sym (records_cons edit_in 71 s j h))
 
-  pub at_none : (k : ℕ) → length s / 71 ≤ j → false ≡ next_at k next
-  at_none k h = ap (next_at k) (sym (records_nil edit_in 71 s j h))
-
-  pub at_some : (k : ℕ) (f : Fields) → j < length s / 71 → f ≡ decode (drop 1 (drop (j * 71) s)) → eqb f.key k ≡ next_at k next
-  at_some k f h e = ap (λ (n : ℕ). eqb n k) (sym (next-key f e)) ∙ ap (next_at k) (sym (records_cons edit_in 71 s j h))
-
-  -- one of a lower key is there
-  pub below-there : (k : ℕ) → next_below k next ≡ true → j < length s / 71
-  below-there k h =
+  -- one is there
+  pub key-there : (k : ℕ) → Some k ≡ next_key next → j < length s / 71
+  key-there k h =
       elim (dec_lt j (length s / 71)) [
         | yes l ↦ l
-        | no m ↦ absurd (false≢true (below_none k (omega arith) ∙ h))
+        | no m ↦ let e : ◌≡◌ {A = ℕ} 0 1 = (let q : None ≡ Some k = key_none (omega arith) ∙ sym h in cc) in absurd (omega arith)
       ]
 
 -- ---- the old record f, and the edits from the next one on
 
-past-edit : (es : List Edit) (f : Fields) (fs : List Fields) → next_below f.key es ≡ true → pairs rises (f ∷ fs) ≡ true → unnamed (drop 1 es) (f ∷ fs) ≡ unnamed es (f ∷ fs)
-past-edit [] f fs h r = absurd (false≢true h)
-past-edit (e ∷ es) f fs h r = sym (left-past e es f.key (f ∷ fs) (ltb-true (key_of e) f.key h) (omega arith, (rising_up (λ (g : Fields). g.key) (f ∷ fs) r).1))
+past-edit : (es : List Edit) (k : ℕ) (f : Fields) (fs : List Fields) → Some k ≡ next_key es → k < f.key → pairs rises (f ∷ fs) ≡ true → unnamed (drop 1 es) (f ∷ fs) ≡ unnamed es (f ∷ fs)
+past-edit [] k f fs h l r = let e : ◌≡◌ {A = ℕ} 0 1 = cc in absurd (omega arith)
+past-edit (e ∷ es) k f fs h l r = let q : k ≡ key_of e = cc in sym (left-past e es f.key (f ∷ fs) (omega arith) (omega arith, (rising_up (λ (g : Fields). g.key) (f ∷ fs) r).1))
 
-past_record : (es : List Edit) (f : Fields) (fs : List Fields) → next_at f.key es ≡ true → unnamed es fs ≡ unnamed es (f ∷ fs)
+past_record : (es : List Edit) (k : ℕ) (f : Fields) (fs : List Fields) → Some k ≡ next_key es → k ≡ f.key → unnamed es fs ≡ unnamed es (f ∷ fs)
 unfolding keep any
-past_record [] f fs h = absurd (false≢true h)
-past_record (e ∷ es) f fs h = rw h refl
+past_record [] k f fs h q = let e : ◌≡◌ {A = ℕ} 0 1 = cc in absurd (omega arith)
+past_record (e ∷ es) k f fs h q = let t : key_of e ≡ f.key = cc in let b : eqb (key_of e) f.key ≡ true = eq-eqb (key_of e) f.key t in rw b refl
 
-kept_record : (es : List Edit) (f : Fields) (fs : List Fields) → pairs edits_rise es ≡ true → next_below f.key es ≡ false → next_at f.key es ≡ false → unnamed es (f ∷ fs) ≡ f ∷ unnamed es fs
+-- the next edit, if there is one, has a key past this
+abbrev pub IsPast : ℕ → List Edit → Type 0
+IsPast k es = (n : ℕ) → Some n ≡ next_key es → k < n
+
+pub past_some : (r k : ℕ) (es : List Edit) → Some k ≡ next_key es → r ≤ k → (k ≡ r → ⊥) → IsPast r es
+past_some r k es h l u n q = let e : n ≡ k = (let o : Some n ≡ Some k = q ∙ sym h in cc) in omega arith
+
+pub past_none : (r : ℕ) (es : List Edit) → None ≡ next_key es → IsPast r es
+past_none r es h n q = let e : ◌≡◌ {A = ℕ} 0 1 = (let o : None ≡ Some n = h ∙ sym q in cc) in absurd (omega arith)
+
+kept_record : (es : List Edit) (f : Fields) (fs : List Fields) → pairs edits_rise es ≡ true → IsPast f.key es → unnamed es (f ∷ fs) ≡ f ∷ unnamed es fs
 unfolding keep
-kept_record es f fs r h k = rw (unnamed-key es r h k) refl
+kept_record es f fs r h = rw (unnamed-key es r h) refl
   where
-    unnamed-key : (es : List Edit) → pairs edits_rise es ≡ true → next_below f.key es ≡ false → next_at f.key es ≡ false → edited es f.key ≡ false
-    unnamed-key [] r h k = unfold any in refl
-    unnamed-key (e ∷ es) r h k =
-        let l = ltb-false (key_of e) f.key h in
-        let n = eqb-false (key_of e) f.key k in
-        unedited f.key (suc f.key) (e ∷ es) (omega arith) (omega arith, (rising_up key_of (e ∷ es) r).1)
+    unnamed-key : (es : List Edit) → pairs edits_rise es ≡ true → IsPast f.key es → edited es f.key ≡ false
+    unnamed-key [] r h = unfold any in refl
+    unnamed-key (e ∷ es) r h = unedited f.key (suc f.key) (e ∷ es) (omega arith) (h (key_of e) refl, (rising_up key_of (e ∷ es) r).1)
 
 -- ---- a step
 
@@ -108,10 +110,10 @@ module _ (edits before : List ℕ) (n : ℕ) (at : PassCursor) (list : List ℕ)
   rise : pairs rises (fields r ∷ drop (at.i + 1) fs) ≡ true
   rise = rw old_cons at (pairs-drop rises at.i fs p.olds)
 
-  pub pack_below : (b : Bool) → b ≡ next_below r.key es → b ≡ true → Packing edits before n (record { i = at.i; j = at.j + 1; w = at.w }) list
-  pack_below b q t =
-      let m = below-there edits at.j r.key (sym q ∙ t) in
-      let u : unnamed (drop 1 es) (drop at.i fs) ≡ unnamed es (drop at.i fs) = rw old_cons (past-edit es (fields r) (drop (at.i + 1) fs) (sym q ∙ t) rise) in
+  pub pack_below : (k : ℕ) → Some k ≡ next_key es → k < r.key → Packing edits before n (record { i = at.i; j = at.j + 1; w = at.w }) list
+  pack_below k q t =
+      let m = key-there edits at.j k q in
+      let u : unnamed (drop 1 es) (drop at.i fs) ≡ unnamed es (drop at.i fs) = rw old_cons (past-edit es k (fields r) (drop (at.i + 1) fs) q t rise) in
       record {
         olds = p.olds;
         news = p.news;
@@ -124,8 +126,8 @@ module _ (edits before : List ℕ) (n : ℕ) (at : PassCursor) (list : List ℕ)
         behind = p.behind;
       }
 
-  pub pack_at : (b : Bool) → b ≡ next_at r.key es → b ≡ true → Packing edits before n (record { i = at.i + 1; j = at.j; w = at.w }) list
-  pack_at b q t =
+  pub pack_at : (k : ℕ) → Some k ≡ next_key es → k ≡ r.key → Packing edits before n (record { i = at.i + 1; j = at.j; w = at.w }) list
+  pack_at k q t =
       record {
         olds = p.olds;
         news = p.news;
@@ -134,14 +136,14 @@ module _ (edits before : List ℕ) (n : ℕ) (at : PassCursor) (list : List ℕ)
         j = p.j;
         w = omega (arith, p.w);
         same = p.same;
-        front = ap (λ (l : List Fields). take at.w (items list) ++ l) (past_record es (fields r) (drop (at.i + 1) fs) (sym q ∙ t) ∙ ap (unnamed es) (sym old_cons)) ∙ p.front;
+        front = ap (λ (l : List Fields). take at.w (items list) ++ l) (past_record es k (fields r) (drop (at.i + 1) fs) q t ∙ ap (unnamed es) (sym old_cons)) ∙ p.front;
         behind = p.behind;
       }
 
-  pub pack_on : (b c : Bool) (list' : List ℕ) → b ≡ next_below r.key es → b ≡ false → c ≡ next_at r.key es → c ≡ false → IsPut at.w (fields r) list list' → Packing edits before n (record { i = at.i + 1; j = at.j; w = at.w + 1 }) list'
-  pack_on b c list' q t q' t' x =
+  pub pack_on : (list' : List ℕ) → IsPast r.key es → IsPut at.w (fields r) list list' → Packing edits before n (record { i = at.i + 1; j = at.j; w = at.w + 1 }) list'
+  pack_on list' q x =
       let m : at.w < length (items list) = omega (arith, items-length list, long, p.w, p.inside) in
-      let k : unnamed es (drop at.i fs) ≡ fields r ∷ unnamed es (drop (at.i + 1) fs) = rw old_cons (kept_record es (fields r) (drop (at.i + 1) fs) (pairs-drop edits_rise at.j (edits_in edits) p.news) (sym q ∙ t) (sym q' ∙ t')) in
+      let k : unnamed es (drop at.i fs) ≡ fields r ∷ unnamed es (drop (at.i + 1) fs) = rw old_cons (kept_record es (fields r) (drop (at.i + 1) fs) (pairs-drop edits_rise at.j (edits_in edits) p.news) q) in
       record {
         olds = p.olds;
         news = p.news;

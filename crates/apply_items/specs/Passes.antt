@@ -1,6 +1,6 @@
 -- For the code only: the list changed in place, in two passes: front to back, records that no edit names move down; back to front, they and
 -- what is put move to their places. So no byte past the result is written.
-use Rattle.std.specs.Prelude.{Bool, true, false, not, ◌≡◌, ℕ, zero, suc, ◌+◌, ◌*◌, ◌/◌, ◌≤◌, eqb, ltb, length, get_or, take, drop, set}
+use Rattle.std.specs.Prelude.{Option, Some, None, Bool, true, false, not, ◌≡◌, ℕ, zero, suc, ◌+◌, ◌*◌, ◌/◌, ◌≤◌, ltb, length, get_or, take, drop, set}
 use mathlib.Core.List.{List, [], ◌∷◌, ◌++◌, map, flat_map}
 use Rattle.endian.specs.Le.{put as over}
 use Rattle.records.specs.Select.{keep}
@@ -33,14 +33,10 @@ merged fs es = items_of (insert_all (puts_in es) (map kept fs))
 
 -- ---- front to back
 
--- the next edit has a key below k; it has the key k
-abbrev pub next_below : ℕ → List Edit → Bool
-next_below k [] = false
-next_below k (e ∷ es) = ltb (key_of e) k
-
-abbrev pub next_at : ℕ → List Edit → Bool
-next_at k [] = false
-next_at k (e ∷ es) = eqb (key_of e) k
+-- the next edit's key
+abbrev pub next_key : List Edit → Option ℕ
+next_key [] = None
+next_key (e ∷ es) = Some (key_of e)
 
 -- old record i and edit j are the next; w records are in front
 pub record Packing (edits before : List ℕ) (n : ℕ) (at : PassCursor) (list : List ℕ) : Type 0 where

@@ -12,7 +12,7 @@ ghost use Rattle.plan_def.specs.ReadBack.{edits_in};
 ghost use Rattle.apply_def.specs.Buffers.{Same};
 ghost use Rattle.apply_walk.specs.Merge.{Rising};
 ghost use Rattle.apply_walk.specs.Checks.{items_now};
-ghost use Rattle.apply_items.specs.Passes.{IsPut, puts_in, merged, next_below, next_at, Packing, Packed, last_over, Filling};
+ghost use Rattle.apply_items.specs.Passes.{IsPut, puts_in, merged, next_key, Packing, Packed, last_over, Filling};
 
 use item::Item;
 
@@ -34,26 +34,14 @@ fn put_record(list: &mut [u8], k: usize, item: Item)
 
 // ---- front to back
 
-// Whether edit j has a key below this one.
-fn is_below(edits: &[u8], j: usize, key: u64) -> bool
-    ensures { result ≡ next_below key (drop j (edits_in edits.now)) }
+// The key of edit j, if there are so many.
+fn next_key(edits: &[u8], j: usize) -> Option<u64>
+    ensures { result ≡ next_key (drop j (edits_in edits.now)) }
 {
     if j >= edits.len() / item::EDIT {
-        return false;
+        return None;
     }
-    let item = plan_lines::edit_item(edits, j);
-    item.key < key
-}
-
-// Whether edit j has this key.
-fn is_at(edits: &[u8], j: usize, key: u64) -> bool
-    ensures { result ≡ next_at key (drop j (edits_in edits.now)) }
-{
-    if j >= edits.len() / item::EDIT {
-        return false;
-    }
-    let item = plan_lines::edit_item(edits, j);
-    item.key == key
+    Some(plan_lines::edit_item(edits, j).key)
 }
 
 // An edit of a lower key is passed; old record i is passed if the next edit names it, else it moves to place w.
@@ -62,25 +50,17 @@ fn pack_step(list: &mut [u8], edits: &[u8], at: PassCursor) -> PassCursor
     ensures { (at.i + at.j < result.i + result.j) × ((before : List ℕ) (n : ℕ) → at.i < n → Packing edits.now before n at list.old → Packing edits.now before n result list.new) }
 {
     let item = item::item_at(list, at.i);
-    if is_below(edits, at.j, item.key) {
-        return PassCursor {
-            i: at.i,
-            j: at.j + 1,
-            w: at.w,
-        };
-    }
-    if is_at(edits, at.j, item.key) {
-        return PassCursor {
-            i: at.i + 1,
-            j: at.j,
-            w: at.w,
-        };
-    }
-    put_record(list, at.w, item);
-    PassCursor {
-        i: at.i + 1,
-        j: at.j,
-        w: at.w + 1,
+    match next_key(edits, at.j) {
+        Some(key) if key < item.key => PassCursor { j: at.j + 1, ..at },
+        Some(key) if key == item.key => PassCursor { i: at.i + 1, ..at },
+        _ => {
+            put_record(list, at.w, item);
+            PassCursor {
+                i: at.i + 1,
+                w: at.w + 1,
+                ..at
+            }
+        }
     }
 }
 
@@ -102,11 +82,12 @@ fn pack(list: &mut [u8], n: usize, edits: &[u8]) -> usize
 fn count_puts(edits: &[u8]) -> usize
     ensures { result ≡ length (puts_in (edits_in edits.now)) }
 {
-    let mut n = 0;
-    for j in 0..edits.len() / item::EDIT {
-        n = records::counted(n, plan_lines::is_put(edits, j));
-    }
-    n
+    edits
+        .as_chunks::<{ item::EDIT }>()
+        .0
+        .iter()
+        .filter(|edit| edit[0] == 1)
+        .count()
 }
 
 // Whether the last of the first i records has a key past this one.
@@ -114,11 +95,7 @@ fn is_over(list: &[u8], i: usize, key: u64) -> bool
     requires { i ≤ length list.now / 70 }
     ensures { result ≡ last_over key i (items list.now) }
 {
-    if i == 0 {
-        return false;
-    }
-    let item = item::item_at(list, i - 1);
-    item.key > key
+    i > 0 && item::item_at(list, i - 1).key > key
 }
 
 // A delete is passed; of the last record in front and the last put, the one with the larger key moves to its place.
@@ -128,11 +105,7 @@ fn fill_step(list: &mut [u8], edits: &[u8], at: PassCursor) -> PassCursor
 {
     let j = at.j - 1;
     if !plan_lines::is_put(edits, j) {
-        return PassCursor {
-            i: at.i,
-            j,
-            w: at.w,
-        };
+        return PassCursor { j, ..at };
     }
     let w = at.w - 1;
     let item = plan_lines::edit_item(edits, j);
@@ -141,12 +114,12 @@ fn fill_step(list: &mut [u8], edits: &[u8], at: PassCursor) -> PassCursor
         put_record(list, w, old);
         return PassCursor {
             i: at.i - 1,
-            j: at.j,
             w,
+            ..at
         };
     }
     put_record(list, w, item);
-    PassCursor { i: at.i, j, w }
+    PassCursor { j, w, ..at }
 }
 
 // The first n records and what is put, merged into the first `end` places.
