@@ -122,11 +122,6 @@ module _ (g : ℕ) (list : List ℕ) (s : Segment) (seg : List ℕ) (k : ℕ) (g
       behind_cons : drop s.to (items list) ≡ y ∷ drop (s.to + 1) (items list)
       behind_cons = drop-cons (items list) s.to nothing lt ∙ rw (add-one, hy) refl
 
-      pub end-not : joinable x y ≡ false → Behind g list s seg k s seg
-      end-not e =
-          let z : joinable (item_at seg k) y ≡ false = rw hx at e in
-          end_stays (rw behind_cons (rw z refl))
-
       pub end-yes : (seg' : List ℕ) → joinable x y ≡ true → items seg' ≡ set (items seg) k (joined x y g) → Behind g list s seg k (record { from = s.from; to = s.to + 1; count = s.count }) seg'
       end-yes seg' e p =
           let r = good.room in

@@ -1,6 +1,7 @@
 -- For the code only: joins in a segment: what its items become.
-use Rattle.std.specs.Prelude.{◌≡◌, cond, List, [], ◌∷◌, ◌++◌, map, ℕ, ◌+◌, ◌≤◌, ◌<◌, take, drop}
-use Rattle.item.specs.Items.{Fields, items, joined}
+use Rattle.std.specs.Prelude.{◌≡◌, true, false, cond, Option, Some, None, List, [], ◌∷◌, ◌++◌, map, ℕ, ◌+◌, ◌≤◌, ◌<◌, take, drop}
+use Rattle.item.specs.declared.Item.{Item}
+use Rattle.item.specs.Items.{Fields, fields, items, joined}
 use Rattle.cut_def.specs.Pieces.{Piece, built, kept}
 use Rattle.cut_def.specs.Joins.{joinable, join_next, join_around}
 use Rattle.cut_segment.specs.declared.Segment.{Segment}
@@ -16,6 +17,11 @@ unfoldable pub join_last : ℕ → List Piece → List Piece → List Piece
 join_last generation [] ps = ps
 join_last generation (p ∷ []) ps = join_next generation p ps
 join_last generation (p ∷ (q ∷ qs)) ps = p ∷ join_last generation (q ∷ qs) ps
+
+-- two items joined, if they are joinable
+pub record Joined (generation : ℕ) (f g : Fields) (item : Option Item) : Type 0 where
+  pub there : (x : Item) → item ≡ Some x → (joinable f g ≡ true) × (fields x ≡ joined f g generation)
+  pub none : item ≡ None → joinable f g ≡ false
 
 -- record k of n joined with the next one: m records are left
 pub record Within (generation k n : ℕ) (seg : List ℕ) (m : ℕ) (seg' : List ℕ) : Type 0 where

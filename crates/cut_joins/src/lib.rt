@@ -4,11 +4,12 @@
 ghost use Rattle.std.specs.Prelude.{◌≡◌, true, ◌++◌, ◌+◌, ◌-◌, ◌≤◌, ◌<◌, length, take, drop};
 ghost use Rattle.records.specs.Lent.{old, new};
 ghost use Rattle.records.specs.Stages.{every};
-ghost use Rattle.item.specs.Items.{items};
+ghost use Rattle.item.specs.Items.{fields, items};
 ghost use Rattle.cut_segment.specs.Segments.{item_at, bounded, Good, Around};
-ghost use Rattle.cut_joins.specs.Joins.{Within, Behind, Before, Joining};
+ghost use Rattle.cut_joins.specs.Joins.{Joined, Within, Behind, Before, Joining};
 
 use cut_segment::{Segment, put_record, record_at, starting_by};
+use item::Item;
 
 // Record k of n taken away; those behind it move down.
 fn remove(seg: &mut [u8], k: usize, n: usize)
@@ -21,17 +22,26 @@ fn remove(seg: &mut [u8], k: usize, n: usize)
     }
 }
 
+// Two items joined, if they are joinable.
+fn joined(front: Item, behind: Item, generation: u64) -> Option<Item>
+    requires { bounded (fields behind) ≡ true }
+    ensures { Joined generation (fields front) (fields behind) result }
+{
+    if !cut_def::is_joinable(front, behind) {
+        return None;
+    }
+    Some(front.joined(behind, generation))
+}
+
 // Record k of n joined with the next one, if they are joinable.
 fn join_within(seg: &mut [u8], k: usize, n: usize, generation: u64) -> usize
     requires { (k + 1 < n) × (n ≤ length (items seg.old)) × (every bounded (take n (items seg.old)) ≡ true) }
     ensures { Within generation k n seg.old result seg.new }
 {
-    let front = record_at(seg, k);
-    let behind = record_at(seg, k + 1);
-    if !cut_def::is_joinable(front, behind) {
+    let Some(item) = joined(record_at(seg, k), record_at(seg, k + 1), generation) else {
         return n;
-    }
-    put_record(seg, k, front.joined(behind, generation));
+    };
+    put_record(seg, k, item);
     remove(seg, k + 1, n);
     n - 1
 }
@@ -44,17 +54,12 @@ fn join_end(list: &[u8], seg: &mut [u8], s: Segment, generation: u64) -> Segment
     if s.to == list.len() / item::RECORD {
         return s;
     }
-    let front = record_at(seg, s.count - 1);
-    let behind = record_at(list, s.to);
-    if !cut_def::is_joinable(front, behind) {
+    let last = s.count - 1;
+    let Some(item) = joined(record_at(seg, last), record_at(list, s.to), generation) else {
         return s;
-    }
-    put_record(seg, s.count - 1, front.joined(behind, generation));
-    Segment {
-        from: s.from,
-        to: s.to + 1,
-        count: s.count,
-    }
+    };
+    put_record(seg, last, item);
+    Segment { to: s.to + 1, ..s }
 }
 
 // Record k of a segment joined with what is behind it.
@@ -66,11 +71,7 @@ fn join_behind(list: &[u8], seg: &mut [u8], s: Segment, k: usize, generation: u6
         return join_end(list, seg, s, generation);
     }
     let n = join_within(seg, k, s.count, generation);
-    Segment {
-        from: s.from,
-        to: s.to,
-        count: n,
-    }
+    Segment { count: n, ..s }
 }
 
 // The first item of a segment joined with the list's record before it.
@@ -81,17 +82,12 @@ fn join_start(list: &[u8], seg: &mut [u8], s: Segment, generation: u64) -> Segme
     if s.from == 0 {
         return s;
     }
-    let front = record_at(list, s.from - 1);
-    let behind = record_at(seg, 0);
-    if !cut_def::is_joinable(front, behind) {
+    let before = s.from - 1;
+    let Some(item) = joined(record_at(list, before), record_at(seg, 0), generation) else {
         return s;
-    }
-    put_record(seg, 0, front.joined(behind, generation));
-    Segment {
-        from: s.from - 1,
-        to: s.to,
-        count: s.count,
-    }
+    };
+    put_record(seg, 0, item);
+    Segment { from: before, ..s }
 }
 
 // Record k of a segment joined with what is before it.
@@ -103,11 +99,7 @@ fn join_before(list: &[u8], seg: &mut [u8], s: Segment, k: usize, generation: u6
         return join_start(list, seg, s, generation);
     }
     let n = join_within(seg, k - 1, s.count, generation);
-    Segment {
-        from: s.from,
-        to: s.to,
-        count: n,
-    }
+    Segment { count: n, ..s }
 }
 
 // Around a sector written in place: the last item at or before it joined with the one behind it, and then with the one

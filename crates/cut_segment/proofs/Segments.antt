@@ -125,9 +125,6 @@ module _ (lo hi : ℕ) (list : List ℕ) (from to : ℕ) (some : lo < hi) (r : R
       let l : length (drop from (items list)) ≡ length (items list) - from = length-drop from (items list) in
       omega (arith, from-most, to-told, leading-most (starts_by (hi - 1)) (drop from (items list)))
 
-  pub cut-order : (from ≤ to) × (to ≤ length (items list))
-  cut-order = (from-to, to-most)
-
   cut_around : (n k : ℕ) → lo ≤ k → k < hi → Around k list (record { from = from; to = to; count = n })
   cut_around n k p q =
       let b = every-leading (ends_by lo) (items list) in
