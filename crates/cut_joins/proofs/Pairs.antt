@@ -39,12 +39,6 @@ joined-ends f g n j b =
     let e = leb-true (end g) (2 ^ 63) b in
     le-leb (end (joined f g n)) (2 ^ 63) (omega arith)
 
-pub joined_fits : (f g : Fields) → joinable f g ≡ true → bounded g ≡ true → f.length + g.length < 2 ^ 64
-joined_fits f g j b =
-    let t = (joint f g j).touch in
-    let e = leb-true (end g) (2 ^ 63) b in
-    omega arith
-
 pub bounded_of : (l : List Fields) (i : ℕ) (f : Fields) → every bounded l ≡ true → i < length l → f ≡ get_or l i nothing → bounded f ≡ true
 bounded_of l i f h k e = rw e (every-at bounded l h i nothing k)
 
