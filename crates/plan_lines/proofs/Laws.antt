@@ -12,14 +12,9 @@ use Rattle.endian.specs.Le.{put}
 use Rattle.endian.proofs.Puts.{length-put, put-put, put_nil, put_cons}
 use Rattle.plan_lines.specs.Lines.{lay, Laid}
 
--- one number, and one more behind those that were put
+-- one number
 pub put_one : (b : ℕ) (at : ℕ) (d : List ℕ) → at < length d → set d at b ≡ put (b ∷ []) at d
 put_one b at d h = sym (put_cons b [] at d h ∙ put_nil (at + 1) (set d at b))
-
-pub put-more : (vs : List ℕ) (b at k : ℕ) (d d' : List ℕ) → length vs ≡ k → at + k < length d → d' ≡ put vs at d → set d' (at + k) b ≡ put (vs ++ b ∷ []) at d
-put-more vs b at k d d' l h e =
-    let n : length d' ≡ length d = rw e (length-put vs at d (omega arith)) in
-    put_one b (at + k) d' (omega arith) ∙ rw e (put-put vs (b ∷ []) at k d l (omega arith))
 
 module _ {A : Type 0} (f : A → List ℕ) (w : ℕ) where
   lay_cons : (n : ℕ) (a : A) (l : List A) (out : List ℕ) → lay f w n (a ∷ l) out ≡ lay f w (n + 1) l (cond (ltb n (length out / w)) (put (f a) (n * w) out) out)

@@ -17,15 +17,6 @@ use read_order::Read;
 use records::both;
 use request::File;
 
-// Five numbers over out, from `at`.
-fn put_five(out: &mut [u64], at: usize, a: u64, b: u64, c: u64, d: u64, e: u64)
-    requires { at + 5 ≤ length out.old }
-    ensures { out.new ≡ put (a ∷ b ∷ c ∷ d ∷ e ∷ []) at out.old }
-{
-    plan_lines::put_four(out, at, a, b, c, d);
-    out[at + 4] = e;
-}
-
 // Row n.
 fn keep_row(out: &mut [u64], n: usize, is: bool, v: [u64; 12])
     ensures { out.new ≡ lay row_numbers 5 n (only is (row_of v)) out.old }
@@ -36,7 +27,7 @@ fn keep_row(out: &mut [u64], n: usize, is: bool, v: [u64; 12])
     if n >= out.len() / 5 {
         return;
     }
-    put_five(out, n * 5, v[0], v[1], v[2], v[3], v[4]);
+    plan_lines::put_numbers(out, n * 5, [v[0], v[1], v[2], v[3], v[4]]);
 }
 
 // Place n.

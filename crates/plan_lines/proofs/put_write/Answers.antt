@@ -1,10 +1,7 @@
-use Rattle.plan_lines.proofs.Laws.{laid_one, laid_full}
+use Rattle.std.proofs.Common.{refl}
 use Rattle.plan_def.specs.Outputs.{write_numbers}
-use native.Mathlib.Omega.{arith}
+use Rattle.plan_lines.proofs.Loops.{laid_by}
 use Rattle.plan_lines.proofs.put_write.Goals as goal
 
-pub returns-then-n-out : goal.returns-then-n-out
-returns-then-n-out c = laid_full write_numbers 4 _ _ _ (omega arith)
-
 pub returns : goal.returns
-returns c = laid_one write_numbers 4 _ _ _ _ (omega arith) c.put_four.ensures
+returns c = laid_by write_numbers 4 _ _ _ _ _ _ refl c.put_line.ensures

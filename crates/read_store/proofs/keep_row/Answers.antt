@@ -11,4 +11,4 @@ returns-then-n-out c = let a = c.args in kept_full row_numbers 5 _ a.is (row_of 
 
 pub returns : goal.returns
 unfolding row_of
-returns c = let a = c.args in kept-one row_numbers 5 _ a.is (row_of a.v) _ _ c.if-not-is.false (omega arith) c.put_five.ensures
+returns c = let a = c.args in kept-one row_numbers 5 _ a.is (row_of a.v) _ _ c.if-not-is.false (omega arith) c.put_numbers.ensures
