@@ -8,25 +8,24 @@ ghost use Rattle.cut_def.specs.Refs.{names};
 ghost use Rattle.ref_def.specs.Compared.{among};
 
 use item::Item;
-use records::{both, either};
 
 // An item of kind 1 or 2 that is no hole.
 pub fn is_named(item: Item) -> bool
     ensures { result ≡ named (fields item) }
 {
-    both(lists::is_ranged(item), !cut_def::is_hole(item))
+    lists::is_ranged(item) && !cut_def::is_hole(item)
 }
 
 // Whether an item names the extent at `start`.
 pub fn is_naming(start: u64, item: Item) -> bool
     ensures { result ≡ names start (fields item) }
 {
-    both(is_named(item), item.extent_start() == start)
+    is_named(item) && item.extent_start() == start
 }
 
 // Whether an item names one of two extents; 0 is none.
 pub fn is_among(one: u64, two: u64, item: Item) -> bool
     ensures { result ≡ among (one ∷ two ∷ []) (fields item) }
 {
-    either(is_naming(one, item), is_naming(two, item))
+    is_naming(one, item) || is_naming(two, item)
 }
