@@ -65,28 +65,25 @@ pieces-few [] = omega arith
 pieces-few (s ∷ ss) =
     omega (arith, length-append (prealloc_pieces piece_limit s) (flat_map (prealloc_pieces piece_limit) ss), pieces-length piece_limit s, pieces-few ss)
 
--- what is summed up to stretch n, and what is left, is the whole
-pub record Summed (ss : List Stretch) (n b p : ℕ) : Type 0 where
-  pub bytes : b + sum_of (drop n ss) ≡ sum_of ss
-  pub pieces : p + length (flat_map (prealloc_pieces piece_limit) (drop n ss)) ≡ length (flat_map (prealloc_pieces piece_limit) ss)
+-- what is summed, and what is left, is the whole
+pub record Summed (ss rest : List Stretch) (b p : ℕ) : Type 0 where
+  pub bytes : b + sum_of rest ≡ sum_of ss
+  pub pieces : p + length (flat_map (prealloc_pieces piece_limit) rest) ≡ length (flat_map (prealloc_pieces piece_limit) ss)
 
-pub summed_first : (ss : List Stretch) → Summed ss 0 0 0
+pub summed_first : (ss : List Stretch) → Summed ss ss 0 0
 summed_first ss = record { bytes = zero-add _; pieces = zero-add _ }
 
--- a turn: stretch n is l long and has k pieces
-module _ (ss : List Stretch) (n b p l k : ℕ) (e : Stretch) (u : Summed ss n b p) (h : n < length ss) (el : l ≡ (get_or ss n e).length) (ek : k ≡ piece_count piece_limit l) where
-  next-is : drop n ss ≡ get_or ss n e ∷ drop (n + 1) ss
-  next-is = rw add-one (drop-cons ss n e h)
-
-  sum_next : sum_of (drop n ss) ≡ l + sum_of (drop (n + 1) ss)
+-- a turn: the next stretch is l long and has k pieces
+module _ (ss rest more : List Stretch) (s : Stretch) (b p l k : ℕ) (u : Summed ss rest b p) (h : rest ≡ s ∷ more) (el : l ≡ s.length) (ek : k ≡ piece_count piece_limit l) where
+  sum_next : sum_of rest ≡ l + sum_of more
   unfolding sum_of
-  sum_next = rw (next-is, ← el) refl
+  sum_next = rw (h, ← el) refl
 
-  pieces-next : length (flat_map (prealloc_pieces piece_limit) (drop n ss)) ≡ k + length (flat_map (prealloc_pieces piece_limit) (drop (n + 1) ss))
+  pieces-next : length (flat_map (prealloc_pieces piece_limit) rest) ≡ k + length (flat_map (prealloc_pieces piece_limit) more)
   unfolding flat_map
-  pieces-next = rw next-is (length-append (prealloc_pieces piece_limit (get_or ss n e)) _ ∙ rw (pieces-length, ← el, ← ek) refl)
+  pieces-next = rw h (length-append (prealloc_pieces piece_limit s) _ ∙ rw (pieces-length, ← el, ← ek) refl)
 
-  pub summed_turn : Summed ss (n + 1) (b + l) (p + k)
+  pub summed_turn : Summed ss more (b + l) (p + k)
   summed_turn = record { bytes = omega (arith, u.bytes, sum_next); pieces = omega (arith, u.pieces, pieces-next) }
 
   -- the sums stay within the whole
@@ -96,8 +93,6 @@ module _ (ss : List Stretch) (n b p l k : ℕ) (e : Stretch) (u : Summed ss n b 
   pub summed_pieces : p + k ≤ sum_of ss
   summed_pieces = omega (arith, u.pieces, pieces-next, pieces-few ss)
 
-pub summed_last : (ss : List Stretch) (n b p : ℕ) → Summed ss n b p → length ss ≤ n → (b ≡ sum_of ss) × (p ≡ length (flat_map (prealloc_pieces piece_limit) ss))
+pub summed_last : (ss rest : List Stretch) (b p : ℕ) → Summed ss rest b p → rest ≡ [] → (b ≡ sum_of ss) × (p ≡ length (flat_map (prealloc_pieces piece_limit) ss))
 unfolding sum_of flat_map
-summed_last ss n b p u h =
-    let z : drop n ss ≡ [] = drop_of_length-le ss h in
-    (rw (z, add-zero) at u.bytes, rw (z, add-zero) at u.pieces)
+summed_last ss rest b p u h = (rw (h, add-zero) at u.bytes, rw (h, add-zero) at u.pieces)

@@ -1,38 +1,27 @@
 -- A walk along the extents wanted: what is left of it. Assumes nothing.
-use mathlib.Core.Path.{◌≡◌, refl, ap, ◌∙◌, sym}
-use mathlib.Core.Bool.{Bool, true, false, ◌&&◌}
+use mathlib.Core.Path.{◌≡◌, refl, ap, ◌∙◌, subst}
 use mathlib.Core.List.{List, [], ◌∷◌, flat_map}
 use Prim.Native.Nat.{ℕ, suc, ◌+◌, ◌-◌, ◌*◌, ◌/◌, ◌≤◌, ◌<◌, min}
 use native.Mathlib.Omega.{arith}
-use native.Mathlib.Decide.{dec_lt}
 use native.Mathlib.Numerals.{add-one}
-use lib.Dec.{leb, ltb}
 use lib.ListN.{length, drop, get_or, drop_of_length-le}
 use lib.Seq.{drop-cons}
-use borrow.Author.Tests.{leb-true, ltb-true, ltb-false, le-leb}
-use Rattle.records.proofs.Tests.{both_left, both_right}
+use Rattle.std.specs.Prelude.{Option, Some, None}
+use Rattle.std.specs.Iterator.{YieldsFirstBy}
 use Rattle.item.specs.Items.{Fields, items}
 use Rattle.change_def.specs.Preallocs.{Stretch, piece_limit, prealloc_pieces}
 use Rattle.change_def.specs.Sweep.{up_to, sweep}
 use Rattle.change_holes.specs.declared.Bounds.{Bounds}
 use Rattle.change_holes.specs.declared.NewExtents.{NewExtents}
-use Rattle.change_holes.specs.declared.Cursor.{Cursor}
-use Rattle.change_holes.specs.declared.Step.{Step}
-use Rattle.change_holes.specs.Walk.{stretch_of, stretches, left, wishes, Settled, Walked}
+use Rattle.change_holes.specs.declared.Stretches.{Stretches}
+use Rattle.change_holes.specs.declared.Walker.{Walker}
+use Rattle.change_holes.specs.declared.Piece.{Piece}
+use Rattle.change_holes.specs.Walk.{stretch_of, piece_of, stretches, stretches_left, left, wishes}
 use Rattle.change_holes.proofs.Gaps.{sweep-count}
 use Rattle.change_holes.proofs.Pieces.{pieces_none, pieces_cons}
 
 pub stretches-length : (w : NewExtents) (list : List ℕ) → length (stretches w (items list)) ≡ (length list / 70 + 1) * 2 + 2
 stretches-length w list = omega (arith, sweep-count w.lo w.hi w.from w.to list)
-
--- what the loop's test says: nothing is left of a stretch, and there is a next one
-pub turning : (rest : Bounds) (next : ℕ) (list : List ℕ) (t : Bool) → t ≡ (leb rest.stop rest.start && ltb next ((length list / 70 + 1) * 2 + 2)) → t ≡ true
-    → (rest.stop ≤ rest.start) × (next < (length list / 70 + 1) * 2 + 2)
-turning rest next list t e h =
-    let a : Bool = leb rest.stop rest.start in
-    let b : Bool = ltb next ((length list / 70 + 1) * 2 + 2) in
-    let k : (a && b) ≡ true = sym e ∙ h in
-    (leb-true _ _ (both_left a b k), ltb-true _ _ (both_right a b k))
 
 module _ (w : NewExtents) (fs : List Fields) where
   -- stretch n
@@ -48,57 +37,58 @@ module _ (w : NewExtents) (fs : List Fields) where
         let m : suc (suc (n - 2)) ≡ n = omega arith in
         q ∙ ap (λ (i : ℕ). get_or (stretches w fs) i e) m
 
-  -- at the start all is left
-  pub left_all : (c : Cursor) → c ≡ record { rest = record { start = 0; stop = 0 }; next = 0 } → left w fs c ≡ wishes w fs
-  left_all c e = rw (e, pieces_none (up_to 0 0) refl) refl
+-- ---- the stretches
 
-  module _ (rest : Bounds) (next : ℕ) (h : rest.stop ≤ rest.start) where
-    empty : prealloc_pieces piece_limit (stretch_of rest) ≡ []
-    empty = pieces_none (stretch_of rest) (omega arith)
+pub stretches_none : (s : Stretches) → (length s.list.now / 70 + 1) * 2 + 2 ≤ s.number → stretches_left s ≡ []
+stretches_none s h = drop_of_length-le (stretches s.wanted (items s.list.now)) (omega (arith, h, stretches-length s.wanted s.list.now))
 
-    -- the next stretch in place of an empty rest
-    pub left-turn : (r : Bounds) → next < length (stretches w fs) → stretch_of r ≡ get_or (stretches w fs) next (up_to 0 0) → left w fs (record { rest = r; next = next + 1 }) ≡ left w fs (record { rest = rest; next = next })
-    unfolding flat_map
-    left-turn r l e =
-        let d : drop next (stretches w fs) ≡ stretch_of r ∷ drop (next + 1) (stretches w fs) = rw (add-one, e) (drop-cons (stretches w fs) next (up_to 0 0) l) in
-        rw (empty, d) refl
+pub stretches_more : (s : Stretches) (b : Bounds) → s.number < (length s.list.now / 70 + 1) * 2 + 2 → stretch_of b ≡ get_or (stretches s.wanted (items s.list.now)) s.number (up_to 0 0)
+    → stretches_left s ≡ stretch_of b ∷ drop (s.number + 1) (stretches s.wanted (items s.list.now))
+stretches_more s b h e = rw (add-one, e) (drop-cons (stretches s.wanted (items s.list.now)) s.number (up_to 0 0) (omega (arith, h, stretches-length s.wanted s.list.now)))
 
-    -- no stretch is left
-    pub left-none : length (stretches w fs) ≤ next → left w fs (record { rest = rest; next = next }) ≡ []
-    unfolding flat_map
-    left-none l = rw (empty, drop_of_length-le (stretches w fs) l) refl
+-- from number 2 on they are those of the sweep
+pub stretches_swept : (s t : Stretches) (w : NewExtents) (list : List ℕ) → t ≡ s → s.wanted ≡ w → s.list.now ≡ list → s.number ≡ 2 → stretches_left t ≡ sweep w.lo w.hi w.from w.to (items list)
+stretches_swept s t w list e ew el en = rw (e, ew, el, en) refl
 
-  -- where the loop stops, by its test t
-  pub settled : (c r : Cursor) (end : ℕ) (t : Bool) → left w fs r ≡ left w fs c → t ≡ (leb r.rest.stop r.rest.start && ltb r.next end) → t ≡ false → end ≡ length (stretches w fs) → Settled w fs c r
-  settled c r end t same e f l =
-      record {
-        same = same;
-        none = λ h. left-none r.rest r.next h (omega (arith, l, ltb-false r.next end (rw (le-leb r.rest.stop r.rest.start h) at (sym e ∙ f))));
-      }
+-- what a call of `next` says of what is left
+pub stretches_next : (s t : Stretches) (o : Option Bounds) (b : Bounds) → o ≡ Some b → YieldsFirstBy stretch_of stretches_left s o t → stretches_left s ≡ stretch_of b ∷ stretches_left t
+stretches_next s t o b e h = subst (λ (o : Option Bounds). YieldsFirstBy stretch_of stretches_left s o t) e h
 
-  -- the first piece of what is left, m long, and what is left behind it
-  module _ (c r : Cursor) (m : ℕ) (k : Settled w fs c r) (e : m ≡ min (stretch_of r.rest).length piece_limit) where
-    abbrev after : Cursor
-    after = record { rest = record { start = r.rest.start + m; stop = r.rest.stop }; next = r.next }
+pub stretches_end : (s t : Stretches) (o : Option Bounds) → o ≡ None → YieldsFirstBy stretch_of stretches_left s o t → (stretches_left s ≡ []) × (stretches_left t ≡ [])
+stretches_end s t o e h = subst (λ (o : Option Bounds). YieldsFirstBy stretch_of stretches_left s o t) e h
 
-    left_cons : r.rest.start < r.rest.stop → left w fs r ≡ record { start = r.rest.start; length = m } ∷ left w fs after
-    left_cons l =
-        let b : Stretch = stretch_of r.rest in
-        let p : min piece_limit b.length ≡ m = omega arith in
-        let q : b.length - m ≡ r.rest.stop - (r.rest.start + m) = omega arith in
-        rw (pieces_cons piece_limit (omega arith) b (omega arith), p, q) refl
+-- ---- the pieces
 
-    pub walked : Walked w fs c (record { start = r.rest.start; length = m; after = after })
-    walked s ss h =
-        elim (dec_lt r.rest.start r.rest.stop) [
-          | yes l ↦ let g = sym (left_cons l) ∙ k.same ∙ h in (ap (λ (t : List Stretch). get_or t 0 s) g, ap (λ (t : List Stretch). drop 1 t) g)
-          | no l ↦ absurd (omega (arith, ap (λ (t : List Stretch). length t) (sym (k.none (omega arith)) ∙ k.same ∙ h)))
-        ]
+-- at the start all are left
+pub left_all : (s : Stretches) (w : NewExtents) (list : List ℕ) → s.wanted ≡ w → s.list.now ≡ list → s.number ≡ 0 → left (record { rest = record { start = 0; stop = 0 }; stretches = s }) ≡ wishes w (items list)
+left_all s w list ew el en = rw (ew, el, en, pieces_none (up_to 0 0) refl) refl
 
-  -- what a step says of what is left, where something is
-  pub walked_cons : (c : Cursor) (r : Step) → Walked w fs c r → 0 < length (left w fs c) → left w fs c ≡ record { start = r.start; length = r.length } ∷ left w fs r.after
-  walked_cons c r k h = go (left w fs c) refl
-    where
-      go : (l : List Stretch) → left w fs c ≡ l → l ≡ record { start = r.start; length = r.length } ∷ left w fs r.after
-      go [] e = absurd (omega (arith, h, ap (λ (t : List Stretch). length t) e))
-      go (s ∷ ss) e = let q = k s ss e in rw (q.0, q.1) refl
+module _ (rest : Bounds) (h : rest.stop ≤ rest.start) where
+  empty : prealloc_pieces piece_limit (stretch_of rest) ≡ []
+  empty = pieces_none (stretch_of rest) (omega arith)
+
+  -- the next stretch in place of an empty rest
+  pub left-turn : (s t : Stretches) (b : Bounds) → stretches_left s ≡ stretch_of b ∷ stretches_left t → left (record { rest = b; stretches = t }) ≡ left (record { rest = rest; stretches = s })
+  unfolding flat_map
+  left-turn s t b e = rw (empty, e) refl
+
+  -- no stretch is left
+  pub left-none : (s : Stretches) → stretches_left s ≡ [] → left (record { rest = rest; stretches = s }) ≡ []
+  unfolding flat_map
+  left-none s e = rw (empty, e) refl
+
+-- the first piece of what is left, m long, and what is left behind it
+pub left_cons : (p : Walker) (m : ℕ) → p.rest.start < p.rest.stop → m ≡ min (stretch_of p.rest).length piece_limit
+    → left p ≡ record { start = p.rest.start; length = m } ∷ left (record { rest = record { start = p.rest.start + m; stop = p.rest.stop }; stretches = p.stretches })
+left_cons p m l e =
+    let b : Stretch = stretch_of p.rest in
+    let k : min piece_limit b.length ≡ m = omega arith in
+    let q : b.length - m ≡ p.rest.stop - (p.rest.start + m) = omega arith in
+    rw (pieces_cons piece_limit (omega arith) b (omega arith), k, q) refl
+
+-- what a call of `next` says of what is left
+pub pieces_next : (s t : Walker) (o : Option Piece) (p : Piece) → o ≡ Some p → YieldsFirstBy piece_of left s o t → left s ≡ piece_of p ∷ left t
+pieces_next s t o p e h = subst (λ (o : Option Piece). YieldsFirstBy piece_of left s o t) e h
+
+pub pieces_end : (s t : Walker) (o : Option Piece) → o ≡ None → YieldsFirstBy piece_of left s o t → left s ≡ []
+pieces_end s t o e h = (subst (λ (o : Option Piece). YieldsFirstBy piece_of left s o t) e h).0

@@ -1,14 +1,15 @@
 -- For the code only: what the structs and functions of this crate say, in the terms of the definitions.
-use Rattle.std.specs.Prelude.{true, ◌≡◌, ℕ, zero, suc, ◌≤◌, ◌^◌, min, max, leb, drop, length}
+use Rattle.std.specs.Prelude.{true, ◌≡◌, ℕ, zero, suc, ◌≤◌, ◌<◌, ◌^◌, min, max, leb, drop, length}
 use mathlib.Core.List.{List, [], ◌∷◌, ◌++◌, flat_map}
 use Rattle.records.specs.Stages.{every}
-use Rattle.item.specs.Items.{Fields, end}
+use Rattle.item.specs.Items.{Fields, items, end}
 use Rattle.change_def.specs.Preallocs.{Stretch, piece_limit, prealloc_pieces}
 use Rattle.change_def.specs.Sweep.{up_to, sweep}
 use Rattle.change_holes.specs.declared.Bounds.{Bounds}
 use Rattle.change_holes.specs.declared.NewExtents.{NewExtents}
-use Rattle.change_holes.specs.declared.Cursor.{Cursor}
-use Rattle.change_holes.specs.declared.Step.{Step}
+use Rattle.change_holes.specs.declared.Stretches.{Stretches}
+use Rattle.change_holes.specs.declared.Piece.{Piece}
+use Rattle.change_holes.specs.declared.Walker.{Walker}
 
 -- every item ends at most at 2^63
 abbrev pub Ends : List Fields → Type 0
@@ -16,6 +17,9 @@ Ends fs = every (λ (f : Fields). leb (end f) (2 ^ 63)) fs ≡ true
 
 abbrev pub stretch_of : Bounds → Stretch
 stretch_of s = up_to s.start s.stop
+
+abbrev pub piece_of : Piece → Stretch
+piece_of p = record { start = p.start; length = p.length }
 
 -- the gap before item n: from the end of the item before it, up to its key
 unfoldable pub gap_start : (from : ℕ) → List Fields → ℕ → ℕ
@@ -36,15 +40,15 @@ stretches w fs = stretch_of w.one ∷ stretch_of w.two ∷ sweep w.lo w.hi w.fro
 abbrev pub wishes : NewExtents → List Fields → List Stretch
 wishes w fs = flat_map (prealloc_pieces piece_limit) (stretches w fs)
 
--- the pieces that are left to a walk
-abbrev pub left : NewExtents → List Fields → Cursor → List Stretch
-left w fs c = prealloc_pieces piece_limit (stretch_of c.rest) ++ flat_map (prealloc_pieces piece_limit) (drop c.next (stretches w fs))
+-- the stretches, and the pieces, that are left to a walk
+abbrev pub stretches_left : Stretches → List Stretch
+stretches_left s = drop s.number (stretches s.wanted (items s.list.now))
+
+abbrev pub left : Walker → List Stretch
+left p = prealloc_pieces piece_limit (stretch_of p.rest) ++ flat_map (prealloc_pieces piece_limit) (stretches_left p.stretches)
 
 -- the same pieces are left, and unless something is left of a stretch there are none
-pub record Settled (w : NewExtents) (fs : List Fields) (c r : Cursor) : Type 0 where
-  pub same : left w fs r ≡ left w fs c
-  pub none : r.rest.stop ≤ r.rest.start → left w fs r ≡ []
-
--- the next piece, and what is left behind it
-abbrev pub Walked : NewExtents → List Fields → Cursor → Step → Type 0
-Walked w fs c r = (s : Stretch) (ss : List Stretch) → left w fs c ≡ s ∷ ss → (record { start = r.start; length = r.length } ≡ s) × (left w fs r.after ≡ ss)
+pub record Settled (p r : Walker) : Type 0 where
+  pub same : left r ≡ left p
+  pub none : r.rest.stop ≤ r.rest.start → left r ≡ []
+  pub ends : r.rest.start < r.rest.stop → Ends (items r.stretches.list.now)

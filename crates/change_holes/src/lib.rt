@@ -7,9 +7,8 @@ ghost use mathlib.Core.List.{flat_map};
 ghost use Rattle.item.specs.Items.{items};
 ghost use Rattle.change_def.specs.Preallocs.{piece_limit, piece_count, prealloc_pieces, sum_of};
 ghost use Rattle.change_def.specs.Sweep.{up_to, sweep};
-ghost use Rattle.change_holes.specs.Walk.{Ends, stretch_of, gap_start, gap_stop, stretches, wishes, left, Settled, Walked};
-
-use records::smaller;
+ghost use Rattle.std.specs.Iterator.{YieldsFirstBy, item_count};
+ghost use Rattle.change_holes.specs.Walk.{Ends, stretch_of, piece_of, gap_start, gap_stop, stretches, stretches_left, wishes, left, Settled};
 
 // A stretch of a file from `start` up to `stop`; empty where `stop` is not past `start`.
 #[derive(Clone, Copy)]
@@ -30,21 +29,10 @@ pub struct NewExtents {
     pub to: u64,
 }
 
-// How far a walk along the extents wanted is: what is left of a stretch, and the number of the next stretch.
-#[derive(Clone, Copy)]
-pub struct Cursor {
-    pub rest: Bounds,
-    pub next: usize,
-}
-
 fn length_of(s: Bounds) -> u64
     ensures { result ≡ (stretch_of s).length }
 {
-    if s.start < s.stop {
-        s.stop - s.start
-    } else {
-        0
-    }
+    s.stop.saturating_sub(s.start)
 }
 
 // Where the gap before record n starts: where the record before it ends.
@@ -56,7 +44,7 @@ fn gap_start(list: &[u8], from: u64, n: usize) -> u64
         return from;
     }
     let item = item::item_at(list, n - 1);
-    records::larger(from, item.key + item.length())
+    from.max(item.key + item.length())
 }
 
 // Where it stops: at the record.
@@ -68,7 +56,7 @@ fn gap_stop(list: &[u8], to: u64, n: usize) -> u64
         return to;
     }
     let item = item::item_at(list, n);
-    smaller(item.key, to)
+    item.key.min(to)
 }
 
 // Bounds n of the sweep: an even one lies before lo, an odd one from hi on.
@@ -81,11 +69,11 @@ fn swept(w: NewExtents, list: &[u8], n: usize) -> Bounds
     if n % 2 == 0 {
         Bounds {
             start: a,
-            stop: smaller(b, w.lo),
+            stop: b.min(w.lo),
         }
     } else {
         Bounds {
-            start: records::larger(a, w.hi),
+            start: a.max(w.hi),
             stop: b,
         }
     }
@@ -126,11 +114,10 @@ pub fn sum_holes(w: NewExtents, list: &[u8]) -> Sums
     requires { Ends (items list.now) × (sum_of (sweep w.lo w.hi w.from w.to (items list.now)) ≤ 2 ^ 63) }
     ensures { (result.bytes ≡ sum_of (sweep w.lo w.hi w.from w.to (items list.now))) × (result.pieces ≡ length (flat_map (prealloc_pieces piece_limit) (sweep w.lo w.hi w.from w.to (items list.now)))) }
 {
-    let end = (list.len() / item::RECORD + 1) * 2;
     let mut bytes: u64 = 0;
     let mut pieces: usize = 0;
-    for n in 0..end {
-        let length = length_of(swept(w, list, n));
+    for s in stretches_at(w, list, 2) {
+        let length = length_of(s);
         bytes += length;
         pieces += piece_count(length);
     }
@@ -139,56 +126,110 @@ pub fn sum_holes(w: NewExtents, list: &[u8]) -> Sums
 
 // ---- the walk
 
-// The start of a walk.
-pub fn walk_start() -> Cursor
-    ensures { result ≡ record { rest = record { start = 0; stop = 0 }; next = 0 } }
+// The stretches that new extents are wanted for, one by one, empty ones too.
+#[derive(Clone, Copy)]
+pub struct Stretches<'a> {
+    pub wanted: NewExtents,
+    pub list: &'a [u8],
+    pub number: usize,
+}
+
+// From number `number` on.
+fn stretches_at<'a>(wanted: NewExtents, list: &'a [u8], number: usize) -> Stretches<'a>
+    ensures { (result.wanted ≡ wanted) × (result.list ≡ list.entry) × (result.number ≡ number) }
 {
-    Cursor {
+    Stretches {
+        wanted,
+        list,
+        number,
+    }
+}
+
+impl<'a> Iterator for Stretches<'a> {
+    type Item = Bounds;
+
+    ghost can_next = { λ s. Ends (items s.list.now) };
+
+    ghost next_gives = { YieldsFirstBy stretch_of stretches_left };
+
+    ghost remaining = { item_count stretches_left };
+
+    fn next(&mut self) -> Option<Bounds> {
+        if self.number >= (self.list.len() / item::RECORD + 1) * 2 + 2 {
+            return None;
+        }
+        let s = stretch_at(self.wanted, self.list, self.number);
+        self.number += 1;
+        Some(s)
+    }
+}
+
+// A piece of a stretch: a new extent lies there.
+#[derive(Clone, Copy)]
+pub struct Piece {
+    pub start: u64,
+    pub length: u64,
+}
+
+// The pieces, one by one: what is left of a stretch, and the stretches behind it.
+#[derive(Clone, Copy)]
+pub struct Walker<'a> {
+    pub rest: Bounds,
+    pub stretches: Stretches<'a>,
+}
+
+// All of them.
+pub fn walk<'a>(w: NewExtents, list: &'a [u8]) -> Walker<'a>
+    ensures { (result.stretches.list ≡ list.entry) × (left result ≡ wishes w (items list.now)) }
+{
+    Walker {
         rest: Bounds { start: 0, stop: 0 },
-        next: 0,
+        stretches: stretches_at(w, list, 0),
     }
 }
 
 // On to the next stretch that is not empty, unless something is left of this one.
-fn settle(w: NewExtents, list: &[u8], c: Cursor) -> Cursor
-    requires { Ends (items list.now) }
-    ensures { Settled w (items list.now) c result }
+fn settle<'a>(p: Walker<'a>) -> Walker<'a>
+    requires { Ends (items p.stretches.list.now) }
+    ensures { Settled p.entry result }
 {
-    let end = (list.len() / item::RECORD + 1) * 2 + 2;
-    let mut rest = c.rest;
-    let mut next = c.next;
-    while records::both(rest.stop <= rest.start, next < end) {
-        rest = stretch_at(w, list, next);
-        next += 1;
+    let mut p = p;
+    while p.rest.stop <= p.rest.start {
+        let Some(s) = p.stretches.next() else {
+            return p;
+        };
+        p.rest = s;
     }
-    Cursor { rest, next }
+    p
 }
 
-// A piece, and the walk behind it.
-#[derive(Clone, Copy)]
-pub struct Step {
-    pub start: u64,
-    pub length: u64,
-    pub after: Cursor,
-}
+impl<'a> Iterator for Walker<'a> {
+    type Item = Piece;
 
-// The next piece, if one is left: what is left of a stretch, up to the limit.
-pub fn next_piece(w: NewExtents, list: &[u8], c: Cursor) -> Step
-    requires { Ends (items list.now) }
-    ensures { Walked w (items list.now) c result }
-{
-    let at = settle(w, list, c);
-    let rest = at.rest;
-    let length = smaller(length_of(rest), 268435456);
-    Step {
-        start: rest.start,
-        length,
-        after: Cursor {
+    ghost can_next = { λ p. Ends (items p.stretches.list.now) };
+
+    ghost next_gives = { YieldsFirstBy piece_of left };
+
+    ghost remaining = { item_count left };
+
+    // What is left of a stretch, up to the limit.
+    fn next(&mut self) -> Option<Piece> {
+        let at = settle(*self);
+        let rest = at.rest;
+        if rest.stop <= rest.start {
+            return None;
+        }
+        let length = length_of(rest).min(268435456);
+        *self = Walker {
             rest: Bounds {
                 start: rest.start + length,
                 stop: rest.stop,
             },
-            next: at.next,
-        },
+            stretches: at.stretches,
+        };
+        Some(Piece {
+            start: rest.start,
+            length,
+        })
     }
 }

@@ -15,4 +15,4 @@ pub overflow_add-item : goal.overflow_add-item
 overflow_add-item c = omega (arith, record_end c.args.list.now (c.args.n - 1) _ (omega arith) c.item_at-item.ensures _ c.length.ensures c.requires.0)
 
 pub returns : goal.returns
-returns c = c.larger.ensures ∙ starts-behind c.args.list.now (c.args.n - 1) _ (omega arith) c.item_at-item.ensures _ c.length.ensures _ _ (omega arith)
+returns c = c.max.ensures ∙ starts-behind c.args.list.now (c.args.n - 1) _ (omega arith) c.item_at-item.ensures _ c.length.ensures _ _ (omega arith)

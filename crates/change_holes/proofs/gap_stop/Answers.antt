@@ -11,4 +11,4 @@ pub item_at-item-requires : goal.item_at-item-requires
 item_at-item-requires c = omega (arith, items-length c.args.list.now)
 
 pub returns : goal.returns
-returns c = c.smaller.ensures ∙ stops_before _ _ _ (omega (arith, items-length c.args.list.now)) c.item_at-item.ensures _
+returns c = c.min.ensures ∙ stops_before _ _ _ (omega (arith, items-length c.args.list.now)) c.item_at-item.ensures _

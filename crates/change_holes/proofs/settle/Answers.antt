@@ -1,23 +1,19 @@
 use mathlib.Core.Path.{◌∙◌, sym}
 use native.Mathlib.Omega.{arith}
-use Rattle.item.specs.Items.{items}
-use Rattle.item.proofs.Laws.{items-length}
-use Rattle.change_holes.proofs.Walking.{stretches-length, turning, left-turn, settled}
+use Rattle.change_holes.proofs.Walking.{stretches_next, stretches_end, left-turn, left-none}
 use Rattle.change_holes.proofs.settle.Goals as goal
 
-pub stretch_at-rest-requires : goal.stretch_at-rest-requires
-stretch_at-rest-requires c = (c.requires, omega (arith, turning c.loop-rest.rest c.loop-rest.next c.args.list.now _ c.both.ensures c.loop-rest-test.true, items-length c.args.list.now))
+pub returns-in_default : goal.returns-in_default
+returns-in_default c =
+    let q = c.loop-p in
+    let e = stretches_end q.p.stretches c.next.new.self _ c.in_default.is c.next.ensures.steps in
+    let h = c.loop-p-test.true in
+    let z = left-none q.p.rest h c.next.new.self e.1 in
+    record { same = z ∙ sym (left-none q.p.rest h q.p.stretches e.0) ∙ q.invariant.0; none = λ _. z; ends = λ l. absurd (omega arith) }
 
-pub overflow_add-next : goal.overflow_add-next
-overflow_add-next c = omega (arith, turning c.loop-rest.rest c.loop-rest.next c.args.list.now _ c.both.ensures c.loop-rest-test.true)
-
-pub loop-rest-smaller : goal.loop-rest-smaller
-loop-rest-smaller c = omega (arith, turning c.loop-rest.rest c.loop-rest.next c.args.list.now _ c.both.ensures c.loop-rest-test.true)
-
-pub loop-rest-preserved : goal.loop-rest-preserved
-loop-rest-preserved c = let a = c.args in
-    let t = turning c.loop-rest.rest c.loop-rest.next a.list.now _ c.both.ensures c.loop-rest-test.true in
-    left-turn a.w (items a.list.now) c.loop-rest.rest c.loop-rest.next t.0 _ (omega (arith, t.1, stretches-length a.w a.list.now)) c.stretch_at-rest.ensures ∙ c.loop-rest.invariant
-
-pub returns : goal.returns
-returns c = settled _ _ _ _ _ _ c.loop-rest.invariant c.both.ensures c.loop-rest-test.false (sym (stretches-length c.args.w c.args.list.now))
+pub loop-p-preserved : goal.loop-p-preserved
+loop-p-preserved c =
+    let q = c.loop-p in (
+      left-turn q.p.rest c.loop-p-test.true q.p.stretches c.next.new.self c.in-Some.s (stretches_next q.p.stretches c.next.new.self _ _ c.in-Some.is c.next.ensures.steps) ∙ q.invariant.0,
+      rw c.in-Some.is at c.next.ensures.goes.keeps,
+    )

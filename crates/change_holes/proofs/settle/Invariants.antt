@@ -1,11 +1,10 @@
-use mathlib.Core.Path.{◌≡◌}
-use Prim.Native.Nat.{◌-◌}
+use Rattle.std.proofs.Common.{◌≡◌, length}
 use Rattle.item.specs.Items.{items}
-use Rattle.change_holes.specs.Walk.{left}
+use Rattle.change_holes.specs.Walk.{Ends, stretches_left, left}
 use Rattle.change_holes.proofs.settle.Given as goal
 
-abbrev pub invariant-loop-rest : goal.invariant-loop-rest
-invariant-loop-rest l = left l.w (items l.list) (record { rest = l.rest; next = l.next }) ≡ left l.w (items l.list) (record { rest = l.initial.rest; next = l.initial.next })
+abbrev pub invariant-loop-p : goal.invariant-loop-p
+invariant-loop-p l = (left l.p ≡ left l.initial.p) × Ends (items l.p.stretches.list.now)
 
-abbrev pub decreases-loop-rest : goal.decreases-loop-rest
-decreases-loop-rest l = l.end - l.next
+abbrev pub decreases-loop-p : goal.decreases-loop-p
+decreases-loop-p l = length (stretches_left l.p.stretches)
