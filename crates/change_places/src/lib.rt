@@ -1,114 +1,166 @@
 // The places of new extents in code: refusal 26, and the adds.
 #![tactic(auto)]
 
-ghost use Rattle.std.specs.Prelude.{◌≡◌, true, map, ◌*◌, ◌≤◌, length, drop};
+ghost use Rattle.std.specs.Prelude.{◌≡◌, true, map, ◌≤◌, length};
+ghost use Rattle.std.specs.Iterator.{YieldsFirstBy, item_count};
 ghost use Rattle.records.specs.Lent.{old, new};
+ghost use Rattle.records.specs.Refusals.{why};
 ghost use Rattle.records.specs.Stages.{unless, every, pairs};
 ghost use Rattle.item.specs.Items.{items};
 ghost use Rattle.table.specs.Rows.{rows, table_kept};
 ghost use Rattle.plan_def.specs.Places.{placed, place_sound, places_apart, places_sound};
 ghost use Rattle.plan_def.specs.Outputs.{add_numbers};
 ghost use Rattle.plan_lines.specs.Lines.{Laid};
-ghost use Rattle.change_holes.specs.Walk.{Ends, wishes, left};
-ghost use Rattle.change_places.specs.Wishes.{wanted_of, add_at};
+ghost use Rattle.change_holes.specs.Walk.{Ends, wishes};
+ghost use Rattle.change_places.specs.Wishes.{wanted_of, add_at, add_of, ahead};
 
-use change_holes::{Cursor, NewExtents};
-use records::{first, refusal, unless};
+use change_holes::{NewExtents, Walker};
+use records::refusal::{Refusal, check};
 
-// Refusal 26 of each place by itself.
-fn each_refusal(w: NewExtents, list: &[u8], table: &[u64], places: &[u64]) -> u8
-    requires { Ends (items list.now) × (table_kept (rows table.now) ≡ true) × (length (wishes w (items list.now)) ≡ length places.now) }
-    ensures { result ≡ unless (every (place_sound (rows table.now)) (placed places.now (map wanted_of (wishes w (items list.now))))) 26 }
-{
-    let mut c = change_holes::walk_start();
-    for n in 0..places.len() {
-        let step = change_holes::next_piece(w, list, c);
-        let why = refusal::number_of(plan_places::place_refusal(table, places[n], step.length));
-        if why != 0 {
-            return why;
-        }
-        c = step.after;
-    }
-    0
+// A new extent at its place: where it starts on the volume, how long it is, and where it lies in the file.
+#[derive(Clone, Copy)]
+pub struct Extent {
+    pub start: u64,
+    pub length: u64,
+    pub key: u64,
 }
 
-// Refusal 26 of one extent against the places from number `from` on; c is the walk before their extents.
-fn apart_refusal(
+// The new extents at their places, one by one.
+#[derive(Clone, Copy)]
+pub struct Extents<'a> {
+    pub places: &'a [u64],
+    pub number: usize,
+    pub walk: Walker<'a>,
+}
+
+// All of them.
+fn extents_at<'a>(w: NewExtents, list: &'a [u8], places: &'a [u64]) -> Extents<'a>
+    ensures { (result.walk.stretches.list ≡ list.entry) × (ahead result ≡ placed places.now (map wanted_of (wishes w (items list.now)))) }
+{
+    Extents {
+        places,
+        number: 0,
+        walk: change_holes::walk(w, list),
+    }
+}
+
+impl<'a> Iterator for Extents<'a> {
+    type Item = Extent;
+
+    ghost can_next = { λ e. Ends (items e.walk.stretches.list.now) };
+
+    ghost next_gives = { YieldsFirstBy add_of ahead };
+
+    ghost remaining = { item_count ahead };
+
+    fn next(&mut self) -> Option<Extent> {
+        if self.number >= self.places.len() {
+            return None;
+        }
+        let mut walk = self.walk;
+        let Some(piece) = walk.next() else {
+            return None;
+        };
+        let start = self.places[self.number];
+        *self = Extents {
+            places: self.places,
+            number: self.number + 1,
+            walk,
+        };
+        Some(Extent {
+            start,
+            length: piece.length,
+            key: piece.start,
+        })
+    }
+}
+
+// Refusal 26 of a place by itself.
+fn place_refusal(table: &[u64], e: Extent) -> Result<(), Refusal>
+    requires { table_kept (rows table.now) ≡ true }
+    ensures { why result ≡ unless (place_sound (rows table.now) (add_of e)) 26 }
+{
+    plan_places::place_refusal(table, e.start, e.length)
+}
+
+// Of each.
+#[tactic(auto, unfolding(records::specs::Stages::every))]
+fn each_refusal(
     w: NewExtents,
     list: &[u8],
+    table: &[u64],
     places: &[u64],
-    from: usize,
-    c: Cursor,
-    start: u64,
-    size: u64,
-) -> u8
-    requires { Ends (items list.now) × (length (drop from places.now) ≤ length (left w (items list.now) c)) }
-    ensures { result ≡ unless (every (places_apart (add_at start size)) (placed (drop from places.now) (map wanted_of (left w (items list.now) c)))) 26 }
+) -> Result<(), Refusal>
+    requires { Ends (items list.now) × (table_kept (rows table.now) ≡ true) }
+    ensures { why result ≡ unless (every (place_sound (rows table.now)) (placed places.now (map wanted_of (wishes w (items list.now))))) 26 }
 {
-    let mut c = c;
-    for n in from..places.len() {
-        let step = change_holes::next_piece(w, list, c);
-        let why = unless(
-            plan_places::is_clear(start, size, places[n], step.length),
-            refusal::PLACE,
-        );
-        if why != 0 {
-            return why;
-        }
-        c = step.after;
+    for e in extents_at(w, list, places) {
+        place_refusal(table, e)?;
     }
-    0
+    Ok(())
+}
+
+// Refusal 26 of one extent against others.
+#[tactic(auto, unfolding(records::specs::Stages::every))]
+fn apart_refusal(start: u64, size: u64, others: Extents) -> Result<(), Refusal>
+    requires { Ends (items others.walk.stretches.list.now) }
+    ensures { why result ≡ unless (every (places_apart (add_at start size)) (ahead others.entry)) 26 }
+{
+    for e in others {
+        check(
+            plan_places::is_clear(start, size, e.start, e.length),
+            Refusal::Place,
+        )?;
+    }
+    Ok(())
 }
 
 // Refusal 26 of each two places, by pairs.
-fn plain_refusal(w: NewExtents, list: &[u8], places: &[u64]) -> u8
-    requires { Ends (items list.now) × (length places.now ≤ length (wishes w (items list.now))) }
-    ensures { result ≡ unless (pairs places_apart (placed places.now (map wanted_of (wishes w (items list.now))))) 26 }
+#[tactic(auto, unfolding(records::specs::Stages::pairs))]
+fn plain_refusal(w: NewExtents, list: &[u8], places: &[u64]) -> Result<(), Refusal>
+    requires { Ends (items list.now) }
+    ensures { why result ≡ unless (pairs places_apart (placed places.now (map wanted_of (wishes w (items list.now))))) 26 }
 {
-    let mut c = change_holes::walk_start();
-    for n in 0..places.len() {
-        let step = change_holes::next_piece(w, list, c);
-        let why = apart_refusal(w, list, places, n + 1, step.after, places[n], step.length);
-        if why != 0 {
-            return why;
-        }
-        c = step.after;
+    let mut rest = extents_at(w, list, places);
+    while let Some(e) = rest.next() {
+        apart_refusal(e.start, e.length, rest)?;
     }
-    0
+    Ok(())
 }
 
-// Refusal 26 of each two places: the extents at their places, each as a pair of its start and length, sorted in a lent buffer.
-fn sorted_refusal(w: NewExtents, list: &[u8], places: &[u64], extents: &mut [(u64, u64)]) -> u8
-    requires { Ends (items list.now) × (length places.now ≤ length (wishes w (items list.now))) × (length places.now ≤ length extents.old) }
-    ensures { result ≡ unless (pairs places_apart (placed places.now (map wanted_of (wishes w (items list.now))))) 26 }
+// Refusal 26 of each two places: the extents, each as a pair of its start and length, sorted in a lent buffer.
+fn sorted_refusal(
+    w: NewExtents,
+    list: &[u8],
+    places: &[u64],
+    buffer: &mut [(u64, u64)],
+) -> Result<(), Refusal>
+    requires { Ends (items list.now) × (length places.now ≤ length buffer.old) }
+    ensures { why result ≡ unless (pairs places_apart (placed places.now (map wanted_of (wishes w (items list.now))))) 26 }
 {
-    let mut c = change_holes::walk_start();
-    for (n, place) in places.iter().enumerate() {
-        let step = change_holes::next_piece(w, list, c);
-        extents[n] = (*place, step.length);
-        c = step.after;
+    let mut n = 0;
+    for e in extents_at(w, list, places) {
+        buffer[n] = (e.start, e.length);
+        n += 1;
     }
-    unless(
-        plan_apart::are_apart(&mut extents[..places.len()]),
-        refusal::PLACE,
-    )
+    check(plan_apart::are_apart(&mut buffer[..n]), Refusal::Place)
 }
 
 // The same with a buffer of its own, for up to N places: a small one takes less time to zero. It is not built into its caller,
 // whose every call would pay for it.
 #[inline(never)]
-fn sized_refusal<const N: usize>(w: NewExtents, list: &[u8], places: &[u64]) -> u8
-    requires { Ends (items list.now) × (length places.now ≤ length (wishes w (items list.now))) × (length places.now ≤ N) × (N ≤ 65536) }
-    ensures { result ≡ unless (pairs places_apart (placed places.now (map wanted_of (wishes w (items list.now))))) 26 }
+fn sized_refusal<const N: usize>(w: NewExtents, list: &[u8], places: &[u64]) -> Result<(), Refusal>
+    requires { Ends (items list.now) × (length places.now ≤ N) × (N ≤ 65536) }
+    ensures { why result ≡ unless (pairs places_apart (placed places.now (map wanted_of (wishes w (items list.now))))) 26 }
 {
-    let mut extents = [(0u64, 0u64); N];
-    sorted_refusal(w, list, places, &mut extents)
+    let mut buffer = [(0u64, 0u64); N];
+    sorted_refusal(w, list, places, &mut buffer)
 }
 
 // Refusal 26 of each two places. Few are compared by pairs; so are very many, if the first half is not refused.
-fn pairs_refusal(w: NewExtents, list: &[u8], places: &[u64]) -> u8
-    requires { Ends (items list.now) × (length places.now ≤ length (wishes w (items list.now))) }
-    ensures { result ≡ unless (pairs places_apart (placed places.now (map wanted_of (wishes w (items list.now))))) 26 }
+fn pairs_refusal(w: NewExtents, list: &[u8], places: &[u64]) -> Result<(), Refusal>
+    requires { Ends (items list.now) }
+    ensures { why result ≡ unless (pairs places_apart (placed places.now (map wanted_of (wishes w (items list.now))))) 26 }
 {
     let n = places.len();
     if n <= 16 {
@@ -123,10 +175,7 @@ fn pairs_refusal(w: NewExtents, list: &[u8], places: &[u64]) -> u8
     if n <= 65536 {
         return sized_refusal::<65536>(w, list, places);
     }
-    let why = pairs_refusal(w, list, &places[..n / 2]);
-    if why != 0 {
-        return why;
-    }
+    pairs_refusal(w, list, &places[..n / 2])?;
     plain_refusal(w, list, places)
 }
 
@@ -138,17 +187,15 @@ pub fn places_refusal(
     list: &[u8],
     table: &[u64],
     places: &[u64],
-) -> u8
+) -> Result<(), Refusal>
     requires { Ends (items list.now) × (table_kept (rows table.now) ≡ true) × (length (wishes w (items list.now)) ≡ wanted) }
-    ensures { result ≡ unless (places_sound (rows table.now) places.now (map wanted_of (wishes w (items list.now)))) 26 }
+    ensures { why result ≡ unless (places_sound (rows table.now) places.now (map wanted_of (wishes w (items list.now)))) 26 }
 {
     if places.len() != wanted {
-        return refusal::PLACE;
+        return Err(Refusal::Place);
     }
-    first(
-        each_refusal(w, list, table, places),
-        pairs_refusal(w, list, places),
-    )
+    each_refusal(w, list, table, places)?;
+    pairs_refusal(w, list, places)
 }
 
 // The adds: each new extent at its place.
@@ -156,12 +203,9 @@ pub fn put_adds(w: NewExtents, list: &[u8], places: &[u64], out: &mut [u64]) -> 
     requires { Ends (items list.now) × (length (wishes w (items list.now)) ≡ length places.now) }
     ensures { Laid add_numbers 3 0 (placed places.now (map wanted_of (wishes w (items list.now)))) out.old result out.new }
 {
-    let mut c = change_holes::walk_start();
     let mut m = 0;
-    for n in 0..places.len() {
-        let step = change_holes::next_piece(w, list, c);
-        m = plan_lines::put_add(out, m, places[n], step.length, step.start);
-        c = step.after;
+    for e in extents_at(w, list, places) {
+        m = plan_lines::put_add(out, m, e.start, e.length, e.key);
     }
     m
 }

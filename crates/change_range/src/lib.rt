@@ -47,7 +47,13 @@ fn finish_refusal(
 {
     let numbers = n.numbers;
     first(
-        change_places::places_refusal(n.extents, numbers.adds, list, table, places),
+        records::refusal::number_of(change_places::places_refusal(
+            n.extents,
+            numbers.adds,
+            list,
+            table,
+            places,
+        )),
         records::refusal::number_of(plan_places::room_refusal(
             n.numbers, edits, shares, unrefs, releases, adds, writes,
         )),

@@ -1,15 +1,15 @@
+use Rattle.std.proofs.Common.{◌≡◌, length}
 use mathlib.Core.List.{map}
-use Prim.Native.Nat.{◌-◌}
-use Rattle.records.specs.Stages.{unless, pairs}
+use Rattle.records.specs.Stages.{pairs}
 use Rattle.item.specs.Items.{items}
 use Rattle.plan_def.specs.Places.{placed, places_apart}
-use Rattle.change_holes.specs.Walk.{wishes}
-use Rattle.change_places.specs.Wishes.{wanted_of}
-use Rattle.change_places.proofs.Ahead.{Testing}
+use Rattle.change_holes.specs.Walk.{Ends, wishes}
+use Rattle.change_places.specs.Wishes.{wanted_of, ahead}
 use Rattle.change_places.proofs.plain_refusal.Given as goal
 
-abbrev pub invariant-loop-n : goal.invariant-loop-n
-invariant-loop-n l = Testing l.w (items l.list) l.places (pairs places_apart) (unless (pairs places_apart (placed l.places (map wanted_of (wishes l.w (items l.list))))) 26) l.n l.c
+abbrev pub invariant-loop-e : goal.invariant-loop-e
+invariant-loop-e l =
+    (pairs places_apart (ahead l.rest) ≡ pairs places_apart (placed l.fn.places (map wanted_of (wishes l.fn.w (items l.fn.list))))) × Ends (items l.rest.walk.stretches.list.now)
 
-abbrev pub decreases-loop-n : goal.decreases-loop-n
-decreases-loop-n l = l.n-end - l.n
+abbrev pub decreases-loop-e : goal.decreases-loop-e
+decreases-loop-e l = length (ahead l.rest)
