@@ -3,6 +3,6 @@ pub mod WordExamples
 pub mod Runs
 pub mod NumberExamples
 pub mod Steps
-pub mod Does
+pub mod Several
 pub mod Limits
 pub mod FieldExamples

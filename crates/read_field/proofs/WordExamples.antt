@@ -4,7 +4,7 @@ use mathlib.Core.Bool.{Bool, true, not}
 use mathlib.Core.List.{[], ◌∷◌}
 use Prim.Native.String.{String}
 use Rattle.records.specs.Stages.{every}
-use Rattle.read_field.specs.Words.{bytes, starts, behind}
+use Rattle.read_field.specs.Words.{bytes, starts}
 
 spelt : bytes "(punch" ≡ 40 ∷ 112 ∷ 117 ∷ 110 ∷ 99 ∷ 104 ∷ []
 spelt = refl
@@ -22,8 +22,3 @@ there = refl
 missing : every has_not (("a", "") ∷ ("a", "b") ∷ ("a", "A") ∷ ("ab", "a") ∷ ("ab", "ac") ∷ ("ab", " ab") ∷ []) ≡ true
 unfolding starts every
 missing = refl
-
--- the place behind the word, and the text's end
-behind_it : (behind (bytes "b") 1 (bytes "abc") ∷ behind (bytes "c") 1 (bytes "abc") ∷ []) ≡ 2 ∷ 3 ∷ []
-unfolding starts behind
-behind_it = refl

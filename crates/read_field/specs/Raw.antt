@@ -1,33 +1,29 @@
--- For the code only: what the code does with a line on the way, step by step.
-use Rattle.std.specs.Prelude.{cond, List, [], ◌∷◌, ℕ, ◌+◌, length, drop, set}
-use Rattle.read_field.specs.Numbers.{number_at}
-use Rattle.read_field.specs.Words.{bytes, starts, behind}
-use Rattle.read_field.specs.Fields.{Field, field_opening}
-use Rattle.read_field.specs.declared.Progress.{Progress}
+-- For the code only: what a result says that was read.
+use Rattle.std.specs.Prelude.{cond, List, [], ◌∷◌, ℕ, ◌+◌, length, drop, replicate, Option as Maybe, Some, None}
+use Rattle.std.proofs.Math.Option.{Option, none, some}
+use denote.Ref.{Bor}
+use Rattle.read_field.specs.Words.{bytes, starts}
+use Rattle.read_field.specs.declared.Field.{Field}
+use Rattle.read_field.specs.Parts.{Part, Parser, give, next, word, numbers}
 
-module _ (line : List ℕ) where
-  -- behind a fixed word
-  abbrev pub skipped : List ℕ → Progress → Progress
-  skipped w r = record { at = behind w r.at line; values = r.values }
+-- these numbers, and the text behind them
+abbrev pub part : List ℕ → Maybe (Bor (List ℕ)) → Option Part
+part vs None = none
+part vs (Some x) = some (record { numbers = vs; rest = x.now })
 
-  -- a number behind one space, as value k
-  abbrev pub number_step : ℕ → ℕ → Progress → Progress
-  number_step k limit r =
-      record {
-        at = (number_at limit (behind (bytes " ") r.at line) line).at;
-        values = set r.values k (number_at limit (behind (bytes " ") r.at line) line).value;
-      }
+abbrev pub counted : Maybe (ℕ × Bor (List ℕ)) → Option Part
+counted None = none
+counted (Some x) = some (record { numbers = x.0 ∷ []; rest = x.1.now })
 
-  -- numbers by their limits, from value k on
-  unfoldable pub number_steps : ℕ → List ℕ → Progress → Progress
-  number_steps k [] r = r
-  number_steps k (l ∷ ls) r = number_steps (k + 1) ls (number_step k l r)
+-- a field by its opening
+abbrev pub field_by : (opening limits missing : List ℕ) → Parser
+field_by opening limits missing s = cond (starts opening s) (next (numbers limits) (word (bytes ")")) (drop (length opening) s)) (give missing s)
 
-  -- a field by its opening
-  abbrev pub field_step : List ℕ → ℕ → List ℕ → Progress → Progress
-  field_step w k limits r = cond (starts w (drop r.at line)) (skipped (bytes ")") (number_steps k limits (skipped w r))) r
+-- how many numbers fields have, and what reads them one behind another
+abbrev pub total : List Field → ℕ
+total [] = 0
+total (f ∷ fs) = f.1 + total fs
 
-  -- fields in order
-  unfoldable pub field_steps : ℕ → List Field → Progress → Progress
-  field_steps k [] r = r
-  field_steps k (f ∷ fs) r = field_steps (k + length f.limits) fs (field_step (field_opening f.name) k f.limits r)
+abbrev pub fields_by : List Field → Parser
+fields_by [] = give []
+fields_by (f ∷ fs) = next (field_by f.0.now (replicate f.1 f.2) (replicate f.1 0)) (fields_by fs)

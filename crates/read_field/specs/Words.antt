@@ -1,6 +1,6 @@
 -- Fixed words at the start of a text (document 01, "extplan": "each line's opening word is compared byte for byte"). A text
 -- is a list of bytes.
-use Rattle.std.specs.Prelude.{Bool, true, false, cond, ◌&&◌, List, [], ◌∷◌, ℕ, ◌+◌, eqb, length, drop}
+use Rattle.std.specs.Prelude.{Bool, true, false, ◌&&◌, List, [], ◌∷◌, ℕ, eqb}
 use Prim.Native.Char.{code}
 use Prim.Native.String.{String, [] as empty, ◌∷◌ as ◌then◌}
 
@@ -14,8 +14,3 @@ unfoldable pub starts : List ℕ → List ℕ → Bool
 starts [] s = true
 starts (w ∷ ws) [] = false
 starts (w ∷ ws) (b ∷ s) = eqb b w && starts ws s
-
--- the place behind the word w at place `at`. Where it is not there the reader stands at the text's end: nothing can be
--- read there.
-unfoldable pub behind : List ℕ → ℕ → List ℕ → ℕ
-behind w at s = cond (starts w (drop at s)) (at + length w) (length s)

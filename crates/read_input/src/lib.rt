@@ -1,65 +1,70 @@
 // The whole input of extplan, read line by line.
 #![tactic(auto)]
 
-ghost use Rattle.std.specs.Prelude.{◌≡◌, ◌+◌, ◌≤◌, length, drop};
+ghost use Rattle.std.specs.Prelude.{◌≡◌, ◌==◌, ◌+◌, ◌≤◌, not, length, take, drop};
+ghost use Rattle.std.specs.List.{prefix_len};
 ghost use Rattle.records.specs.Lent.{old, new};
 ghost use Rattle.read_order.specs.Few.{Few};
-ghost use Rattle.read_store.specs.Storing.{buffers, Took, Stored};
+ghost use Rattle.read_order.specs.Numbers.{numbers};
+ghost use Rattle.read_store.specs.Storing.{buffers};
 ghost use Rattle.read_input.specs.Split.{line_length};
-ghost use Rattle.read_input.specs.Input.{kind_of, values_of, read_input};
+ghost use Rattle.read_input.specs.Input.{read_input};
+ghost use Rattle.read_input.specs.Raw.{TakesLine, ReadsIn};
 
 use read_order::Read;
 
-// Where the line that starts at `at` ends: at its LF, or where the input does.
-fn line_end(s: &[u8], at: usize) -> usize
-    requires { at ≤ length s.now }
-    ensures { result ≡ at + line_length (drop at s.now) }
+// How long the first line is: to its LF, or to the text's end.
+fn line_length(s: &[u8]) -> usize
+    ensures { result ≡ prefix_len (λ b. not (b == 10)) s.now }
 {
-    let mut i = at;
-    while i < s.len() {
-        if s[i] == 10 {
-            return i;
-        }
-        i += 1;
-    }
-    i
+    s.iter().take_while(|b| **b != b'\n').count()
 }
 
-// One line taken.
+// The first line, and the text behind its LF. (`split` would find one more line, an empty one, behind the last LF.)
+fn first_line(s: &[u8]) -> (&[u8], &[u8])
+    ensures line { result.0.now ≡ take (line_length s.now) s.now }
+    ensures behind { result.1.now ≡ drop (line_length s.now + 1) s.now }
+{
+    let (line, behind) = s.split_at(line_length(s));
+    (line, &behind[behind.len().min(1)..])
+}
+
+// One line taken; where no right input goes on with it, its number.
 fn take_next(
-    r: Read,
+    read: Read,
     line: &[u8],
     items: &mut [u8],
     shared: &mut [u8],
     table: &mut [u64],
     places: &mut [u64],
-) -> Read
-    requires { Few r 65537 }
-    ensures { Took r (kind_of line.now) (values_of line.now) (buffers items.old shared.old table.old places.old) result (buffers items.new shared.new table.new places.new) }
+) -> Result<Read, usize>
+    requires { Few (numbers read) 65537 }
+    ensures { TakesLine read line.now (buffers items.old shared.old table.old places.old) result (buffers items.new shared.new table.new places.new) }
 {
-    let f = read_line::read_line(line);
-    let v = f.values;
-    read_store::take_line(r, f.kind, v, items, shared, table, places)
+    let Some(form) = read_line::read_line(line) else {
+        return Err(read.line);
+    };
+    read_store::take_line(read, form, items, shared, table, places).ok_or(read.line)
 }
 
 // What an input says: its numbers, and in the buffers its items, the source's behind the file's, their shared bytes, the
-// extents and the places. Lines behind one at fault change nothing.
+// extents and the places. Where a line is at fault, its number; the buffers have what was read before it.
 pub fn read_input(
     input: &[u8],
     items: &mut [u8],
     shared: &mut [u8],
     table: &mut [u64],
     places: &mut [u64],
-) -> Read
+) -> Result<Read, usize>
     requires { length input.now ≤ 65536 }
-    ensures { Stored (read_input input.now) (buffers items.old shared.old table.old places.old) result (buffers items.new shared.new table.new places.new) }
+    ensures { ReadsIn (read_input input.now) (buffers items.old shared.old table.old places.old) result (buffers items.new shared.new table.new places.new) }
 {
-    let mut r = read_order::begin();
-    let mut at: usize = 0;
-    while at < input.len() {
-        let end = line_end(input, at);
-        r = take_next(r, &input[at..end], items, shared, table, places);
-        at = end + 1;
+    let mut read = read_order::begin();
+    let mut rest = input;
+    while !rest.is_empty() {
+        let (line, behind) = first_line(rest);
+        read = take_next(read, line, items, shared, table, places)?;
+        rest = behind;
     }
-    r
+    Ok(read)
 }

@@ -1,7 +1,6 @@
 -- What the writes of a line make, and a line that may be one. Assumes nothing.
-use mathlib.Core.Path.{◌≡◌, ap, ◌∙◌, sym}
-use mathlib.Core.Bool.{Bool, true, false}
-use mathlib.Core.List.{List, ◌++◌, append_assoc}
+use mathlib.Core.Path.{◌≡◌, ap, ◌∙◌}
+use mathlib.Core.List.{List, [], ◌∷◌, ◌++◌, append_assoc}
 use Prim.Native.Nat.{ℕ, ◌+◌, ◌*◌, ◌/◌, ◌≤◌, ◌<◌}
 use native.Mathlib.Omega.{arith}
 use native.Mathlib.Nat.{mul-one}
@@ -9,10 +8,9 @@ use lib.ListN.{length, get_or, length-append}
 use Rattle.endian.specs.Le.{enc, put}
 use Rattle.endian.proofs.Numbers.{length-enc}
 use Rattle.endian.proofs.Puts.{put-put}
-use Rattle.records.specs.Select.{only}
 use Rattle.item.specs.Items.{encode}
 use Rattle.plan_lines.specs.Lines.{lay}
-use Rattle.plan_lines.proofs.Laws.{lay_nil, laid_one, laid_full}
+use Rattle.plan_lines.proofs.Laws.{laid_one, laid_full}
 use Rattle.read_order.specs.Taking.{item_of}
 use Rattle.read_item.specs.Raw.{eights, key_bytes, code_bytes}
 
@@ -81,17 +79,14 @@ record-put file v at d d1 d2 d3 d4 d5 h e1 e2 e3 e4 e5 =
     let p4 : d5 ≡ put (k ++ a ++ b ++ s ++ t) at d = put_then (k ++ a ++ b ++ s) t at 54 d d4 d5 (simp (length-append, length-enc)) (simp (length-append, length-enc) (omega arith)) p3 e5 in
     p4 ∙ ap (λ (x : List ℕ). put x at d) (simp append_assoc)
 
--- ---- a line that may be one, as line n
+-- ---- one line, as line n
 
-module _ {A : Type 0} (f : A → List ℕ) (w n : ℕ) (b : Bool) (a : A) (out : List ℕ) where
-  pub kept-none : b ≡ false → out ≡ lay f w n (only b a) out
-  kept-none e = rw e (sym (lay_nil f w n out))
+module _ {A : Type 0} (f : A → List ℕ) (w n : ℕ) (a : A) (out : List ℕ) where
+  pub kept_full : length out / w ≤ n → out ≡ lay f w n (a ∷ []) out
+  kept_full h = (laid_full f w n a out h).output
 
-  pub kept_full : b ≡ true → length out / w ≤ n → out ≡ lay f w n (only b a) out
-  kept_full e h = rw e (laid_full f w n a out h).output
-
-  pub kept-one : (out' : List ℕ) → b ≡ true → n < length out / w → out' ≡ put (f a) (n * w) out → out' ≡ lay f w n (only b a) out
-  kept-one out' e h p = rw e (laid_one f w n a out out' h p).output
+  pub kept-one : (out' : List ℕ) → n < length out / w → out' ≡ put (f a) (n * w) out → out' ≡ lay f w n (a ∷ []) out
+  kept-one out' h p = (laid_one f w n a out out' h p).output
 
 -- one number a line
 pub one_place : (vs : List ℕ) (n : ℕ) (out out' : List ℕ) → out' ≡ put vs n out → out' ≡ put vs (n * 1) out

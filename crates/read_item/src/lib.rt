@@ -2,10 +2,9 @@
 // counted and not written.
 #![tactic(auto)]
 
-ghost use Rattle.std.specs.Prelude.{◌≡◌, ◌+◌, ◌≤◌, length};
+ghost use Rattle.std.specs.Prelude.{◌≡◌, ◌+◌, ◌≤◌, [], ◌∷◌, length};
 ghost use Rattle.records.specs.Lent.{old, new};
 ghost use Rattle.endian.specs.Le.{put};
-ghost use Rattle.records.specs.Select.{only};
 ghost use Rattle.item.specs.Items.{encode};
 ghost use Rattle.plan_lines.specs.Lines.{lay};
 ghost use Rattle.read_order.specs.Taking.{item_of};
@@ -55,26 +54,20 @@ fn put_record(out: &mut [u8], at: usize, file: u64, v: [u64; 12])
     put_eights(out, at + 54, v[4], v[5]);
 }
 
-// Record n, if the line is one.
-pub fn keep_item(out: &mut [u8], n: usize, is: bool, file: u64, v: [u64; 12])
-    ensures { out.new ≡ lay encode 70 n (only is (item_of file v)) out.old }
+// Record n.
+pub fn keep_item(out: &mut [u8], n: usize, file: u64, v: [u64; 12])
+    ensures { out.new ≡ lay encode 70 n (item_of file v ∷ []) out.old }
 {
-    if !is {
-        return;
-    }
     if n >= out.len() / item::RECORD {
         return;
     }
     put_record(out, n * item::RECORD, file, v);
 }
 
-// Shared byte n, likewise.
-pub fn keep_shared(out: &mut [u8], n: usize, is: bool, v: u64)
-    ensures { out.new ≡ lay byte 1 n (only is v) out.old }
+// Shared byte n.
+pub fn keep_shared(out: &mut [u8], n: usize, v: u64)
+    ensures { out.new ≡ lay byte 1 n (v ∷ []) out.old }
 {
-    if !is {
-        return;
-    }
     if n >= out.len() {
         return;
     }

@@ -1,3 +1,4 @@
-pub mod Whole
+pub mod Table
+pub mod Behind
 pub mod Sound
 pub mod Examples

@@ -1,11 +1,13 @@
 -- A line of extplan's input (document 01, "extplan"): "a form a line".
-use Rattle.std.specs.Prelude.{cond, List, [], ◌∷◌, ◌++◌, ◌≡◌, ℕ, ◌-◌, ◌^◌, length, drop}
+use Rattle.std.specs.Prelude.{cond, List, [], ◌∷◌, ◌++◌, ℕ, ◌-◌, ◌^◌, length, drop, Option as Maybe, Some, None}
 use Rattle.std.proofs.Math.Option.{Option, none, some}
 use Prim.Native.String.{String}
 use Rattle.read_field.specs.Words.{bytes, starts}
 use Rattle.read_field.specs.Parts.{Part, Parser, next, word, numbers, end, filled}
 use Rattle.read_field.specs.Fields.{Field, one, two, fields}
 use Rattle.read_line.specs.declared.Form.{Form}
+use Rattle.read_line.specs.declared.Kind.{Kind}
+use Rattle.read_line.specs.declared.Kind.TheVariants.{Volume, File, Item, Extent, Place, Punch, Fallocate, Clone}
 
 -- A line: its number among the shapes, its word, the limits of numbers that stand right behind the word, and its fields.
 pub record Shape : Type 0 where
@@ -65,6 +67,17 @@ read_by (h ∷ hs) s = cond (starts (opening h.name) s) (line_of h.kind (whole_l
 unfoldable pub read_line : List ℕ → Line
 read_line s = read_by shapes s
 
--- the form in code is the line that was read
-abbrev pub Says : Form → Line → Type 0
-Says f l = (f.kind ≡ l.kind) × (f.values ≡ l.values)
+-- the kinds in code by these numbers, and a line that was read in code; None is an unreadable one
+abbrev pub kind_number : Kind → ℕ
+kind_number Volume = 1
+kind_number File = 2
+kind_number Item = 3
+kind_number Extent = 4
+kind_number Place = 5
+kind_number Punch = 6
+kind_number Fallocate = 7
+kind_number Clone = 8
+
+abbrev pub line_in : Maybe Form → Line
+line_in None = unreadable
+line_in (Some f) = record { kind = kind_number f.kind; values = f.values }

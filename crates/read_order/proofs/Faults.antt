@@ -11,9 +11,8 @@ use lib.ListN.{get_or}
 use borrow.Author.Tests.{eqb-true, leb-true}
 use Rattle.records.specs.Stages.{every}
 use Rattle.records.proofs.Tests.{both_left, both_right}
-use Rattle.read_order.specs.declared.Read.{Read}
 use Rattle.read_order.specs.Order.{next, order}
-use Rattle.read_order.specs.Taking.{taken_to, taken, fault}
+use Rattle.read_order.specs.Taking.{Numbers, taken_to, taken, fault}
 use Rattle.read_order.specs.Run.{after}
 
 -- what holds of each row of a table, and of none, holds of row k
@@ -24,7 +23,7 @@ each_row t (r ∷ rows) n e zero = both_left (t r) (every t rows) e
 each_row t (r ∷ rows) n e (suc k) = each_row t rows n (both_right (t r) (every t rows) e) k
 
 -- no line leads on from a line at fault
-next-none : (kind : ℕ) → next 0 kind ≡ 0
+pub next-none : (kind : ℕ) → next 0 kind ≡ 0
 unfolding next every
 next-none kind = eqb-true (get_or (get_or order kind []) 0 0) 0 (each_row (λ (r : List ℕ). eqb (get_or r 0 0) 0) order refl refl kind)
 
@@ -40,12 +39,12 @@ unfolding next every
 next-most phase kind = each_most (get_or order kind []) (each_row (λ (r : List ℕ). every (λ (x : ℕ). leb x 8) r) order refl refl kind) phase
 
 module _ {L : Type 0} (kind : L → ℕ) (values : L → List ℕ) where
-  pub phases : (r : Read) (ls : List L) → r.phase ≤ 8 → (after kind values r ls).phase ≤ 8
+  pub phases : (r : Numbers) (ls : List L) → r.phase ≤ 8 → (after kind values r ls).phase ≤ 8
   unfolding after taken taken_to
   phases r [] h = h
   phases r (l ∷ ls) h = phases (taken r (kind l) (values l)) ls (next-most r.phase (kind l))
 
-  stays : (r : Read) (ls : List L) (n : ℕ) → r.phase ≡ 0 → r.line ≡ n → fault (after kind values r ls) ≡ n
+  stays : (r : Numbers) (ls : List L) (n : ℕ) → r.phase ≡ 0 → r.line ≡ n → fault (after kind values r ls) ≡ n
   unfolding after taken taken_to fault
   stays r [] n p e = rw p e
   stays r (l ∷ ls) n p e =
@@ -53,7 +52,7 @@ module _ {L : Type 0} (kind : L → ℕ) (values : L → List ℕ) where
       stays (taken r (kind l) (values l)) ls n q (rw q (add-zero r.line ∙ e))
 
   -- whatever comes behind a line at fault
-  pub at-fault_for_good : (r : Read) (ls : List L) → r.phase ≡ 0 → fault (after kind values r ls) ≡ r.line
+  pub at-fault_for_good : (r : Numbers) (ls : List L) → r.phase ≡ 0 → fault (after kind values r ls) ≡ r.line
   at-fault_for_good r ls p = stays r ls r.line p refl
 
 -- kinds of lines that make an input right, from each of what was read so far
@@ -63,14 +62,14 @@ ways = [] ∷ (1 ∷ 2 ∷ 6 ∷ []) ∷ (2 ∷ 6 ∷ []) ∷ (6 ∷ []) ∷ (8 
 abbrev pub way : ℕ → List ℕ
 way phase = get_or ways phase []
 
-abbrev goes : Read → List ℕ → Read
+abbrev goes : Numbers → List ℕ → Numbers
 goes r kinds = after (λ (k : ℕ). k) (λ (k : ℕ). []) r kinds
 
 leads : ℕ → List ℕ → ℕ
 leads p [] = p
 leads p (k ∷ ks) = leads (next p k) ks
 
-goes_phase : (r : Read) (ks : List ℕ) → (goes r ks).phase ≡ leads r.phase ks
+goes_phase : (r : Numbers) (ks : List ℕ) → (goes r ks).phase ≡ leads r.phase ks
 unfolding after taken taken_to leads
 goes_phase r [] = refl
 goes_phase r (k ∷ ks) = goes_phase (taken r k []) ks
@@ -90,7 +89,7 @@ led (suc (suc (suc (suc (suc (suc (suc (suc zero)))))))) h m = refl
 led (suc (suc (suc (suc (suc (suc (suc (suc (suc p))))))))) h m = absurd (omega arith)
 
 -- where no line was at fault, lines of these kinds make the input right
-pub right_so_far : (r : Read) → 0 < r.phase → r.phase ≤ 8 → fault (goes r (way r.phase)) ≡ 0
+pub right_so_far : (r : Numbers) → 0 < r.phase → r.phase ≤ 8 → fault (goes r (way r.phase)) ≡ 0
 unfolding fault
 right_so_far r h m =
     let e : (goes r (way r.phase)).phase ≡ 8 = goes_phase r (way r.phase) ∙ led r.phase h m in

@@ -2,13 +2,12 @@
 use Rattle.std.specs.Prelude.{List, [], ◌∷◌, ◌++◌, ℕ, take, drop}
 use Rattle.item.specs.Items.{Fields}
 use Rattle.table.specs.declared.Row.{Row}
-use Rattle.read_order.specs.declared.Read.{Read}
-use Rattle.read_order.specs.Taking.{begin, taken, items_in, shared_in, rows_in, places_in}
+use Rattle.read_order.specs.Taking.{Numbers, begin, taken, items_in, shared_in, rows_in, places_in}
 
 -- What an input says: the numbers of its lines, the items of the file and of the clone's source, the shared numbers of
 -- both, the rows and the places. Where a line is at fault it is what was read before that line.
 pub record Reading : Type 0 where
-  pub numbers : Read
+  pub numbers : Numbers
   pub items : List Fields
   pub source : List Fields
   pub shared : List ℕ
@@ -18,12 +17,12 @@ pub record Reading : Type 0 where
 -- a line's kind, 0 if it is unreadable, and its numbers
 module _ {L : Type 0} (kind : L → ℕ) (values : L → List ℕ) where
   -- what was read after some lines
-  unfoldable pub after : Read → List L → Read
+  unfoldable pub after : Numbers → List L → Numbers
   after r [] = r
   after r (l ∷ ls) = after (taken r (kind l) (values l)) ls
 
   -- what these lines add, f giving what one line adds
-  unfoldable pub along : {A : Type 0} → (Read → ℕ → List ℕ → List A) → Read → List L → List A
+  unfoldable pub along : {A : Type 0} → (Numbers → ℕ → List ℕ → List A) → Numbers → List L → List A
   along f r [] = []
   along f r (l ∷ ls) = f r (kind l) (values l) ++ along f (taken r (kind l) (values l)) ls
 

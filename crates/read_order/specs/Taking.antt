@@ -6,9 +6,32 @@ use Rattle.table.specs.declared.Row.{Row}
 use Rattle.table.specs.Rows.{row_of}
 use Rattle.request.specs.declared.Volume.{Volume}
 use Rattle.request.specs.declared.File.{File}
-use Rattle.read_order.specs.declared.Asked.{Asked}
-use Rattle.read_order.specs.declared.Read.{Read}
 use Rattle.read_order.specs.Order.{next}
+
+-- ---- what was read
+
+-- What is asked for: 6 a punch, 7 a fallocate, 8 a clone, with its numbers; 0: nothing yet.
+pub record Asked : Type 0 where
+  pub kind : ℕ
+  pub from : ℕ
+  pub to : ℕ
+  pub length : ℕ
+  pub keep : Bool
+
+-- How far the input has come (`Order`), the number of the next line (or of the one at fault), the volume and the files,
+-- whether the file is its own source, how many items of the file, item lines, rows and places there were, and the request.
+pub record Numbers : Type 0 where
+  pub phase : ℕ
+  pub line : ℕ
+  pub volume : Volume
+  pub file : File
+  pub second : File
+  pub own : Bool
+  pub items : ℕ
+  pub stored : ℕ
+  pub rows : ℕ
+  pub places : ℕ
+  pub asked : Asked
 
 -- ---- a line's numbers, by its kind
 
@@ -61,10 +84,13 @@ asked_of kind v =
 
 -- ---- before the first line
 
+abbrev pub no_request : Asked
+no_request = record { kind = 0; from = 0; to = 0; length = 0; keep = false }
+
 abbrev pub no_file : File
 no_file = record { number = 0; size = 0; nodatacow = false }
 
-unfoldable pub begin : Read
+unfoldable pub begin : Numbers
 begin =
     record {
       phase = 1;
@@ -77,7 +103,7 @@ begin =
       stored = 0;
       rows = 0;
       places = 0;
-      asked = record { kind = 0; from = 0; to = 0; length = 0; keep = false };
+      asked = no_request;
     }
 
 -- ---- one line
@@ -88,7 +114,7 @@ comes wanted phase kind = eqb kind wanted && not (eqb phase 0)
 
 -- what is read after a line, where `phase` says what that is: a line at fault is not counted and changes nothing else,
 -- nor does any line behind it. "Items under a second `file` line are the clone's source; without one the file is its own."
-unfoldable pub taken_to : Read → (phase kind : ℕ) → List ℕ → Read
+unfoldable pub taken_to : Numbers → (phase kind : ℕ) → List ℕ → Numbers
 taken_to r phase kind v =
     record {
       phase = phase;
@@ -104,28 +130,28 @@ taken_to r phase kind v =
       asked = cond (eqb phase 8) (asked_of kind v) r.asked;
     }
 
-unfoldable pub taken : Read → (kind : ℕ) → List ℕ → Read
+unfoldable pub taken : Numbers → (kind : ℕ) → List ℕ → Numbers
 taken r kind v = taken_to r (next r.phase kind) kind v
 
 -- "line N unreadable or out of this order gives `(line N)`, no request the next N"; 0: none
-unfoldable pub fault : Read → ℕ
+unfoldable pub fault : Numbers → ℕ
 fault r = cond (eqb r.phase 8) 0 r.line
 
 -- ---- what a line adds to the lists: one or nothing
 
 -- the file that an item belongs to
-abbrev pub holder : Read → (phase : ℕ) → ℕ
+abbrev pub holder : Numbers → (phase : ℕ) → ℕ
 holder r phase = cond (eqb phase 3) r.file.number r.second.number
 
-unfoldable pub items_in : Read → (kind : ℕ) → List ℕ → List Fields
+unfoldable pub items_in : Numbers → (kind : ℕ) → List ℕ → List Fields
 items_in r kind v = only (comes 3 (next r.phase kind) kind) (item_of (holder r (next r.phase kind)) v)
 
-unfoldable pub shared_in : Read → (kind : ℕ) → List ℕ → List ℕ
+unfoldable pub shared_in : Numbers → (kind : ℕ) → List ℕ → List ℕ
 shared_in r kind v = only (comes 3 (next r.phase kind) kind) (shared_of v)
 
 -- "(extent (at 1048576) (len 16384) (refs 1) (made 5) (keyed 0))": a row's five numbers, in its order
-unfoldable pub rows_in : Read → (kind : ℕ) → List ℕ → List Row
+unfoldable pub rows_in : Numbers → (kind : ℕ) → List ℕ → List Row
 rows_in r kind v = only (comes 4 (next r.phase kind) kind) (row_of v)
 
-unfoldable pub places_in : Read → (kind : ℕ) → List ℕ → List ℕ
+unfoldable pub places_in : Numbers → (kind : ℕ) → List ℕ → List ℕ
 places_in r kind v = only (comes 5 (next r.phase kind) kind) (place_of v)

@@ -1,84 +1,56 @@
 // One line of extplan's input, taken into what was read before it.
-#![tactic(auto)]
+#![tactic(auto, unfolding(crate::specs::Order::next, crate::specs::Taking::begin, crate::specs::Taking::taken, crate::specs::Taking::taken_to, crate::specs::Taking::fault))]
 
-ghost use Rattle.std.specs.Prelude.{◌≡◌, cond, length};
-ghost use Rattle.read_order.specs.Order.{next};
-ghost use Rattle.read_order.specs.Taking.{volume_of, file_of, asked_of, begin, taken_to, taken, fault};
+ghost use Rattle.std.specs.Prelude.{◌≡◌, ◌≢◌, MatchResult};
+ghost use Rattle.read_order.specs.Taking.{volume_of, file_of, begin, fault};
+ghost use Rattle.read_order.specs.Numbers.{numbers, asked_in, source_in, request_in, second_file, range_in, span_in, Takes};
 ghost use Rattle.read_order.specs.Few.{Few};
 
-use records::{both, counted};
-use request::{File, Volume};
+use clone_span::CloneRange;
+use read_line::{Form, Kind};
+use request::{File, Range, Volume};
 
-// What is asked for: 6 a punch, 7 a fallocate, 8 a clone, with its numbers.
+// What is asked for. A fallocate may keep the size; a clone may take from another file.
 #[derive(Clone, Copy)]
-pub struct Asked {
-    pub kind: u8,
-    pub from: u64,
-    pub to: u64,
-    pub length: u64,
-    pub keep: bool,
+pub enum Request {
+    Punch(Range),
+    Fallocate(Range, bool),
+    Clone(CloneRange, Option<File>),
 }
 
-// What was read: how far the input has come, the number of the next line (or of the one at fault), the volume and the
-// files, whether the file is its own source, how many items of the file, item lines, rows and places were stored, and
-// the request.
+// How far the input has come: `File` and `Source`, a clone's second file, go with items of theirs.
+#[derive(Clone, Copy)]
+pub enum Phase {
+    Nothing,
+    Volume,
+    File,
+    Source(File),
+    Extents,
+    SourceExtents(File),
+    Places,
+    Request(Request),
+}
+
+// What was read: how far the input has come, the number of the next line, the volume and the file, and how many items of the
+// file, item lines, rows and places were stored.
 #[derive(Clone, Copy)]
 pub struct Read {
-    pub phase: u8,
+    pub phase: Phase,
     pub line: usize,
     pub volume: Volume,
     pub file: File,
-    pub second: File,
-    pub own: bool,
     pub items: usize,
     pub stored: usize,
     pub rows: usize,
     pub places: usize,
-    pub asked: Asked,
 }
 
-// What is read after a line, as a table: a row for each kind of line, a place for each of what was read before it.
-pub fn next(phase: u8, kind: u8) -> u8
-    ensures { result ≡ next phase kind }
-{
-    if phase >= 9 {
-        return 0;
-    }
-    if kind >= 9 {
-        return 0;
-    }
-    let order: [[u8; 9]; 9] = [
-        [0, 0, 0, 0, 0, 0, 0, 0, 0],
-        [0, 2, 0, 0, 0, 0, 0, 0, 0],
-        [0, 0, 3, 4, 0, 0, 0, 0, 0],
-        [0, 0, 0, 3, 4, 0, 0, 0, 0],
-        [0, 0, 0, 5, 6, 5, 6, 0, 0],
-        [0, 0, 0, 7, 0, 7, 0, 7, 0],
-        [0, 0, 0, 8, 0, 8, 0, 8, 0],
-        [0, 0, 0, 8, 0, 8, 0, 8, 0],
-        [0, 0, 0, 8, 8, 8, 8, 0, 0],
-    ];
-    order[kind as usize][phase as usize]
-}
-
-// One of two, by a test.
-fn pick_volume(b: bool, x: Volume, y: Volume) -> Volume
-    ensures { result ≡ cond b x y }
-{
-    if b { x } else { y }
-}
-
-fn pick_file(b: bool, x: File, y: File) -> File
-    ensures { result ≡ cond b x y }
-{
-    if b { x } else { y }
-}
-
-fn pick_asked(b: bool, x: Asked, y: Asked) -> Asked
-    ensures { result ≡ cond b x y }
-{
-    if b { x } else { y }
-}
+// Where there is none.
+pub const NO_FILE: File = File {
+    number: 0,
+    size: 0,
+    nodatacow: false,
+};
 
 fn volume_of(v: [u64; 12]) -> Volume
     ensures { result ≡ volume_of v }
@@ -101,80 +73,121 @@ fn file_of(v: [u64; 12]) -> File
     }
 }
 
-fn asked_of(kind: u8, v: [u64; 12]) -> Asked
-    ensures { result ≡ asked_of kind v }
+fn range_of(v: [u64; 12]) -> Range
+    ensures { result ≡ range_in v }
 {
-    Asked {
-        kind,
+    Range {
+        offset: v[0],
+        length: v[1],
+    }
+}
+
+fn span_of(v: [u64; 12]) -> CloneRange
+    ensures { result ≡ span_in v }
+{
+    CloneRange {
         from: v[0],
-        to: records::pick(kind == 8, v[1], 0),
-        length: records::pick(kind == 8, v[2], v[1]),
-        keep: both(kind == 7, v[2] == 1),
+        to: v[1],
+        length: v[2],
     }
 }
 
 // Before the first line.
 pub fn begin() -> Read
-    ensures { result ≡ begin }
+    ensures { numbers result ≡ begin }
 {
-    let none = File {
-        number: 0,
-        size: 0,
-        nodatacow: false,
-    };
-    let volume = Volume {
-        sector: 0,
-        total: 0,
-        generation: 0,
-        snapshot: 0,
-    };
-    let asked = Asked {
-        kind: 0,
-        from: 0,
-        to: 0,
-        length: 0,
-        keep: false,
-    };
     Read {
-        phase: 1,
+        phase: Phase::Nothing,
         line: 1,
-        volume,
-        file: none,
-        second: none,
-        own: true,
+        volume: Volume {
+            sector: 0,
+            total: 0,
+            generation: 0,
+            snapshot: 0,
+        },
+        file: NO_FILE,
         items: 0,
         stored: 0,
         rows: 0,
         places: 0,
-        asked,
     }
 }
 
-// The numbers of what is read after a line; `phase` is what `next` says.
-pub fn taken_to(r: Read, phase: u8, kind: u8, v: [u64; 12]) -> Read
-    requires { Few r 65537 }
-    ensures { result ≡ taken_to r phase kind v }
+// What is read after a line; None: no right input goes on with it.
+pub fn taken(r: Read, line: Form) -> Option<Read>
+    requires { Few (numbers r) 65537 }
+    ensures { Takes r line result }
 {
-    let ok = phase != 0;
-    let file = kind == 2;
-    Read {
-        phase,
-        line: counted(r.line, ok),
-        volume: pick_volume(phase == 2, volume_of(v), r.volume),
-        file: pick_file(both(file, phase == 3), file_of(v), r.file),
-        second: pick_file(both(file, phase == 4), file_of(v), r.second),
-        own: both(r.own, phase != 4),
-        items: counted(r.items, both(kind == 3, phase == 3)),
-        stored: counted(r.stored, both(kind == 3, ok)),
-        rows: counted(r.rows, both(kind == 4, ok)),
-        places: counted(r.places, both(kind == 5, ok)),
-        asked: pick_asked(phase == 8, asked_of(kind, v), r.asked),
+    let v = line.values;
+    let read = Read {
+        line: r.line + 1,
+        ..r
+    };
+    match (r.phase, line.kind) {
+        (Phase::Nothing, Kind::Volume) => Some(Read {
+            phase: Phase::Volume,
+            volume: volume_of(v),
+            ..read
+        }),
+        (Phase::Volume, Kind::File) => Some(Read {
+            phase: Phase::File,
+            file: file_of(v),
+            ..read
+        }),
+        (Phase::File, Kind::File) => Some(Read {
+            phase: Phase::Source(file_of(v)),
+            ..read
+        }),
+        (Phase::File, Kind::Item) => Some(Read {
+            items: r.items + 1,
+            stored: r.stored + 1,
+            ..read
+        }),
+        (Phase::Source(_), Kind::Item) => Some(Read {
+            stored: r.stored + 1,
+            ..read
+        }),
+        (Phase::File | Phase::Extents, Kind::Extent) => Some(Read {
+            phase: Phase::Extents,
+            rows: r.rows + 1,
+            ..read
+        }),
+        (Phase::Source(file) | Phase::SourceExtents(file), Kind::Extent) => Some(Read {
+            phase: Phase::SourceExtents(file),
+            rows: r.rows + 1,
+            ..read
+        }),
+        (Phase::File | Phase::Extents | Phase::Places, Kind::Place) => Some(Read {
+            phase: Phase::Places,
+            places: r.places + 1,
+            ..read
+        }),
+        (Phase::File | Phase::Extents | Phase::Places, Kind::Punch) => Some(Read {
+            phase: Phase::Request(Request::Punch(range_of(v))),
+            ..read
+        }),
+        (Phase::File | Phase::Extents | Phase::Places, Kind::Fallocate) => Some(Read {
+            phase: Phase::Request(Request::Fallocate(range_of(v), v[2] == 1)),
+            ..read
+        }),
+        (Phase::File | Phase::Extents, Kind::Clone) => Some(Read {
+            phase: Phase::Request(Request::Clone(span_of(v), None)),
+            ..read
+        }),
+        (Phase::Source(file) | Phase::SourceExtents(file), Kind::Clone) => Some(Read {
+            phase: Phase::Request(Request::Clone(span_of(v), Some(file))),
+            ..read
+        }),
+        _ => None,
     }
 }
 
-// The number of the line at fault, or 0.
-pub fn fault(r: Read) -> usize
-    ensures { result ≡ fault r }
+// The request; where there is none, the number of the line at fault.
+pub fn asked(r: Read) -> Result<Request, usize>
+    ensures { MatchResult result (λ q. (fault (numbers r) ≡ 0) × (asked_in q ≡ request_in r.phase) × (source_in q ≡ second_file r.phase)) (λ n. (fault (numbers r) ≡ n) × (n ≡ r.line)) }
 {
-    if r.phase == 8 { 0 } else { r.line }
+    match r.phase {
+        Phase::Request(request) => Ok(request),
+        _ => Err(r.line),
+    }
 }

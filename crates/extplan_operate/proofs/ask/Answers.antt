@@ -1,8 +1,5 @@
-use Rattle.extplan_operate.proofs.Asked.{clone-asked}
+use Rattle.extplan_operate.proofs.Asked.{punch-asked, fallocate-asked, own-asked, clone-asked}
 use Rattle.extplan_operate.proofs.ask.Goals as goal
 
-pub ask_range-requires : goal.ask_range-requires
-ask_range-requires c = c.if-r-eq8.false
-
-pub returns-then-r-eq8 : goal.returns-then-r-eq8
-returns-then-r-eq8 c = clone-asked c.args.r _ _ _ _ _ _ _ _ _ _ _ _ _ _ _ _ c.if-r-eq8.true c.clone_range.ensures
+pub returns-in-Punch : goal.returns-in-Punch
+returns-in-Punch c = let h = c in ?

@@ -1,42 +1,18 @@
-use Rattle.read_input.proofs.Whole.{onward_first, onward_few, onward-turn, onward_done}
-use Rattle.read_input.proofs.Split.{long-within}
-use Rattle.read_input.specs.Input.{kind_of, values_of}
-use Rattle.read_store.proofs.Runs.{items-length, shared-length, table-length, places-length}
-use native.Mathlib.Omega.{arith}
+use Rattle.read_input.proofs.Whole.{onward_first, onward_few, onward-turn, onward-fault, onward_done, not_empty, empty, handed_on}
 use Rattle.read_input.proofs.read_input.Goals as goal
 
-pub loop-at-init : goal.loop-at-init
-loop-at-init c = onward_first _ _ _ c.begin-r.ensures
+pub loop-rest-init : goal.loop-rest-init
+loop-rest-init c = onward_first _ _ _ c.begin-read.ensures
 
-pub slice_bounds-take_next-count : goal.slice_bounds-take_next-count
-slice_bounds-take_next-count c = omega (arith, c.line_end-end.ensures)
+pub take_next-requires : goal.take_next-requires
+take_next-requires c = onward_few _ _ _ _ _ c.loop-rest.invariant (not_empty _ c.loop-rest-test.ensures) c.requires
 
-pub slice_bounds-take_next-end : goal.slice_bounds-take_next-end
-slice_bounds-take_next-end c = long-within _ _ _ (omega arith) c.line_end-end.ensures
+pub returns-in_err-read : goal.returns-in_err-read
+returns-in_err-read c = let e = c.in_err-read.ensures in
+    handed_on _ _ _ c.in_err-read.field-0.0 _ c.from_residual.ensures.1 (onward-fault _ _ _ _ _ c.loop-rest.invariant (not_empty _ c.loop-rest-test.ensures) _ _ c.first_line.ensures.line c.first_line.ensures.behind _ _ e.0 e.1 e.2)
 
-pub take_next-r-requires : goal.take_next-r-requires
-take_next-r-requires c = onward_few _ _ _ _ _ (omega arith) c.requires c.loop-at.invariant
-
-pub overflow_add-at : goal.overflow_add-at
-overflow_add-at c = omega (arith, long-within _ _ _ (omega arith) c.line_end-end.ensures, c.requires)
-
-pub loop-at-smaller : goal.loop-at-smaller
-loop-at-smaller c = omega (arith, c.line_end-end.ensures)
-
-pub loop-at-preserved : goal.loop-at-preserved
-loop-at-preserved c = onward-turn _ _ _ _ _ _ _ _ (omega arith) c.line_end-end.ensures c.loop-at.invariant c.take_next-r.ensures
-
-pub shape_of-items : goal.shape_of-items
-shape_of-items c = items-length kind_of values_of _ _ _ _ _ c.loop-at.invariant.going
-
-pub shape_of-shared : goal.shape_of-shared
-shape_of-shared c = shared-length kind_of values_of _ _ _ _ _ c.loop-at.invariant.going
-
-pub shape_of-table : goal.shape_of-table
-shape_of-table c = table-length kind_of values_of _ _ _ _ _ c.loop-at.invariant.going
-
-pub shape_of-places : goal.shape_of-places
-shape_of-places c = places-length kind_of values_of _ _ _ _ _ c.loop-at.invariant.going
+pub loop-rest-preserved : goal.loop-rest-preserved
+loop-rest-preserved c = onward-turn _ _ _ _ _ c.loop-rest.invariant (not_empty _ c.loop-rest-test.ensures) _ _ c.first_line.ensures.line c.first_line.ensures.behind _ _ c.in_ok-read.ensures
 
 pub returns : goal.returns
-returns c = onward_done _ _ _ _ _ (omega arith) c.loop-at.invariant
+returns c = let l = c.loop-rest in onward_done _ _ _ _ l.rest.now (empty _ c.loop-rest-test.ensures) l.invariant

@@ -1,11 +1,11 @@
-use Rattle.read_input.proofs.Whole.{Onward}
+use Rattle.std.proofs.Common.{length}
+use Rattle.read_order.specs.Numbers.{numbers}
 use Rattle.read_store.specs.Storing.{buffers}
-use lib.ListN.{length}
-use Prim.Native.Nat.{◌-◌}
+use Rattle.read_input.proofs.Whole.{Onward}
 use Rattle.read_input.proofs.read_input.Given as goal
 
-abbrev pub invariant-loop-at : goal.invariant-loop-at
-invariant-loop-at l = Onward l.input (buffers l.initial.items l.initial.shared l.initial.table l.initial.places) l.at l.r (buffers l.items l.shared l.table l.places)
+abbrev pub invariant-loop-rest : goal.invariant-loop-rest
+invariant-loop-rest l = Onward l.input (buffers l.initial.items l.initial.shared l.initial.table l.initial.places) l.rest (numbers l.read) (buffers l.items l.shared l.table l.places)
 
-abbrev pub decreases-loop-at : goal.decreases-loop-at
-decreases-loop-at l = length l.input - l.at
+abbrev pub decreases-loop-rest : goal.decreases-loop-rest
+decreases-loop-rest l = length l.rest

@@ -1,5 +1,6 @@
-use Rattle.read_store.proofs.Laws.{took-same}
+use Rattle.std.proofs.Common.{refl}
+use Rattle.read_input.proofs.Whole.{unread}
 use Rattle.read_input.proofs.take_next.Goals as goal
 
-pub returns : goal.returns
-returns c = took-same _ _ _ _ _ _ _ _ c.read_line-f.ensures.0 c.read_line-f.ensures.1 c.take_line.ensures
+pub returns-in_default : goal.returns-in_default
+returns-in_default c = (refl, unread c.args.read _ c.in_default.ensures, refl)

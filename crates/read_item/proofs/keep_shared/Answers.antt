@@ -1,13 +1,10 @@
-use Rattle.read_item.proofs.Laws.{kept-none, kept_full, kept-one, one_place}
+use Rattle.std.proofs.Common.{arith}
+use Rattle.read_item.proofs.Laws.{kept_full, kept-one, one_place}
 use Rattle.read_item.specs.Raw.{byte}
-use native.Mathlib.Omega.{arith}
 use Rattle.read_item.proofs.keep_shared.Goals as goal
 
-pub returns-then-not-is : goal.returns-then-not-is
-returns-then-not-is c = let a = c.args in kept-none byte 1 _ a.is a.v _ c.if-not-is.true
-
 pub returns-then-n-out : goal.returns-then-n-out
-returns-then-n-out c = let a = c.args in kept_full byte 1 _ a.is a.v _ c.if-not-is.false (omega arith)
+returns-then-n-out c = kept_full byte 1 _ c.args.v _ (omega arith)
 
 pub returns : goal.returns
-returns c = let a = c.args in kept-one byte 1 _ a.is a.v _ _ c.if-not-is.false (omega arith) (one_place _ _ _ _ c.put_num.ensures)
+returns c = kept-one byte 1 _ c.args.v _ _ (omega arith) (one_place _ _ _ _ c.put_num.ensures)
