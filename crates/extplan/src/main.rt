@@ -6,7 +6,7 @@ ghost use Rattle.std.specs.Prelude.{◌≡◌, ◌≤◌, IfOk, length};
 ghost use Rattle.plan_def.specs.Outputs.{outs};
 ghost use Rattle.extplan_reply.specs.Replies.{Replied};
 
-use extplan_reply::Reply;
+use request::Answer;
 use std::io;
 use std::io::Read;
 
@@ -36,7 +36,7 @@ fn write_part(rt: &impl Print, line: &[u8], k: usize) -> io::Result<()>
 fn write_line(
     rt: &impl Print,
     input: &[u8],
-    r: Reply,
+    reply: Result<Answer, usize>,
     edits: &[u8],
     shares: &[u64],
     unrefs: &[u64],
@@ -46,11 +46,11 @@ fn write_line(
     n: usize,
     line: &mut [u8],
 ) -> io::Result<bool>
-    requires replied { Replied input.now r (outs edits.now shares.now unrefs.now releases.now adds.now writes.now) }
+    requires replied { Replied input.now reply (outs edits.now shares.now unrefs.now releases.now adds.now writes.now) }
     requires in_bounds { 256 ≤ length line.old }
 {
     let k = extplan_reply::reply_line(
-        input, r, edits, shares, unrefs, releases, adds, writes, n, line,
+        input, reply, edits, shares, unrefs, releases, adds, writes, n, line,
     );
     if k == 0 {
         return Ok(false);
@@ -63,7 +63,7 @@ fn write_line(
 fn write_lines(
     rt: &impl Print,
     input: &[u8],
-    r: Reply,
+    reply: Result<Answer, usize>,
     edits: &[u8],
     shares: &[u64],
     unrefs: &[u64],
@@ -72,17 +72,15 @@ fn write_lines(
     writes: &[u64],
     line: &mut [u8],
 ) -> io::Result<()>
-    requires replied { Replied input.now r (outs edits.now shares.now unrefs.now releases.now adds.now writes.now) }
+    requires replied { Replied input.now reply (outs edits.now shares.now unrefs.now releases.now adds.now writes.now) }
     requires in_bounds { 256 ≤ length line.old }
 {
-    let mut n: usize = 0;
-    while n < 1000000 {
+    for n in 0..1000000 {
         if !write_line(
-            rt, input, r, edits, shares, unrefs, releases, adds, writes, n, line,
+            rt, input, reply, edits, shares, unrefs, releases, adds, writes, n, line,
         )? {
             return Ok(());
         }
-        n += 1;
     }
     Ok(())
 }
@@ -116,7 +114,7 @@ fn answer(rt: &impl Print, input: &[u8]) -> io::Result<()>
     let mut adds = [0u64; 19659];
     let mut writes = [0u64; 8];
     let mut line = [0u8; 256];
-    let r = extplan_reply::answer(
+    let reply = extplan_reply::answer(
         input,
         &mut items,
         &mut shared,
@@ -130,7 +128,7 @@ fn answer(rt: &impl Print, input: &[u8]) -> io::Result<()>
         &mut writes,
     );
     write_lines(
-        rt, input, r, &edits, &shares, &unrefs, &releases, &adds, &writes, &mut line,
+        rt, input, reply, &edits, &shares, &unrefs, &releases, &adds, &writes, &mut line,
     )
 }
 

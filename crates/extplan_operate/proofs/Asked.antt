@@ -2,7 +2,7 @@
 use mathlib.Core.Bool.{true, false}
 use mathlib.Core.List.{List, []}
 use Prim.Native.Nat.{ℕ}
-use Rattle.std.specs.Prelude.{Some, None, Bool}
+use Rattle.std.specs.Prelude.{Bool}
 use Rattle.request.specs.declared.Answer.{Answer}
 use Rattle.request.specs.declared.File.{File}
 use Rattle.request.specs.declared.Range.{Range}
@@ -12,7 +12,7 @@ use Rattle.punch_def.specs.Punch.{punch_lent}
 use Rattle.fallocate_def.specs.Fallocate.{fallocate_lent}
 use Rattle.clone_def.specs.Clone.{clone_lent}
 use Rattle.read_order.specs.declared.Read.{Read}
-use Rattle.read_order.specs.declared.Request.TheVariants.{Punch, Fallocate, Clone}
+use Rattle.read_order.specs.declared.Request.TheVariants.{Punch, Fallocate, Clone, CloneFrom}
 use Rattle.read_order.specs.Taking.{no_file}
 use Rattle.extplan_operate.specs.Operations.{operation, asking}
 use Rattle.extplan_operate.proofs.Among.{among}
@@ -31,11 +31,11 @@ module _ (r : Read) (list shared source table places : List ℕ) (a : Answer) wh
 
   module _ (e s u l x w e' s' u' l' : List ℕ) (span : CloneRange) where
     pub own-asked : MetWith r.file.number (clone_lent r.volume r.file no_file true span list shared source table (rooms_of (outs e s u l [] []))) a (outs e s u l [] []) (outs e' s' u' l' [] [])
-        → MetWith r.file.number (operation (asking r (Clone span None)) list shared source table places (rooms_of (outs e s u l x w))) a (outs e s u l x w) (outs e' s' u' l' x w)
+        → MetWith r.file.number (operation (asking r (Clone span)) list shared source table places (rooms_of (outs e s u l x w))) a (outs e s u l x w) (outs e' s' u' l' x w)
     unfolding operation
     own-asked m = among r.volume r.file no_file true span list shared source table e s u l x w e' s' u' l' a m
 
     pub clone-asked : (f : File) → MetWith r.file.number (clone_lent r.volume r.file f false span list shared source table (rooms_of (outs e s u l [] []))) a (outs e s u l [] []) (outs e' s' u' l' [] [])
-        → MetWith r.file.number (operation (asking r (Clone span (Some f))) list shared source table places (rooms_of (outs e s u l x w))) a (outs e s u l x w) (outs e' s' u' l' x w)
+        → MetWith r.file.number (operation (asking r (CloneFrom span f)) list shared source table places (rooms_of (outs e s u l x w))) a (outs e s u l x w) (outs e' s' u' l' x w)
     unfolding operation
     clone-asked f m = among r.volume r.file f false span list shared source table e s u l x w e' s' u' l' a m

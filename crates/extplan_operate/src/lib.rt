@@ -35,7 +35,7 @@ fn ask<'a>(
             r.volume, r.file, range, keep, list, shared, table, places, edits, shares, unrefs,
             releases, adds, writes,
         ),
-        Request::Clone(span, None) => clone::clone_range(
+        Request::Clone(span) => clone::clone_range(
             r.volume,
             r.file,
             read_order::NO_FILE,
@@ -50,7 +50,7 @@ fn ask<'a>(
             unrefs,
             releases,
         ),
-        Request::Clone(span, Some(second)) => clone::clone_range(
+        Request::CloneFrom(span, second) => clone::clone_range(
             r.volume, r.file, second, false, span, list, shared, source, table, edits, shares,
             unrefs, releases,
         ),

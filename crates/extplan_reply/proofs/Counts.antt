@@ -14,11 +14,13 @@ use Rattle.records.specs.Select.{only}
 use Rattle.records.proofs.Lists.{flat_append}
 use Rattle.item.specs.Items.{Fields}
 use Rattle.plan_bounds.specs.Ample.{most_records, most_places}
-use Rattle.read_line.proofs.Sound.{least, value-within, line-long}
+use Rattle.request.specs.declared.Volume.{Volume}
+use Rattle.request.specs.declared.File.{File}
+use Rattle.read_line.specs.Forms.{most}
+use Rattle.read_line.proofs.Sound.{least, value-within, line-long, read_sound}
 use Rattle.read_item.specs.Raw.{byte}
-use Rattle.read_order.specs.declared.Read.{Read}
 use Rattle.read_order.specs.Order.{next}
-use Rattle.read_order.specs.Taking.{comes, shared_of, begin, taken, taken_to, items_in, shared_in, rows_in, places_in}
+use Rattle.read_order.specs.Taking.{Numbers, comes, shared_of, volume_of, file_of, begin, taken, taken_to, items_in, shared_in, rows_in, places_in}
 use Rattle.read_order.specs.Run.{Reading, after, along, reading_of}
 use Rattle.read_store.proofs.Runs.{stored_more, shared-more, rows_more, places-more}
 use Rattle.read_input.specs.Split.{onto, lines}
@@ -49,9 +51,9 @@ lines-size (b ∷ s) = go (eqb b 10) (lines-size s)
 
 -- ---- what lines add
 
-module _ {A : Type 0} (g : Read → ℕ → List ℕ → List A) where
+module _ {A : Type 0} (g : Numbers → ℕ → List ℕ → List A) where
   -- each line that adds one has at least w bytes
-  along-few : (w : ℕ) → ((r : Read) (l : List ℕ) → w * length (g r (kind_of l) (values_of l)) ≤ length l + 1) → (r : Read) (ls : List (List ℕ)) → w * length (along kind_of values_of g r ls) ≤ sizes ls
+  along-few : (w : ℕ) → ((r : Numbers) (l : List ℕ) → w * length (g r (kind_of l) (values_of l)) ≤ length l + 1) → (r : Numbers) (ls : List (List ℕ)) → w * length (along kind_of values_of g r ls) ≤ sizes ls
   unfolding along sizes
   along-few w h r [] = omega (arith, mul-zero w)
   along-few w h r (l ∷ ls) =
@@ -60,12 +62,12 @@ module _ {A : Type 0} (g : Read → ℕ → List ℕ → List A) where
       rw (length-append a b, mul-add w (length a) (length b)) (omega (arith, h r l, along-few w h (taken r (kind_of l) (values_of l)) ls))
 
   -- a count that each of them moves by one
-  along-count : (count : Read → ℕ) → ((r : Read) (k : ℕ) (v : List ℕ) → count (taken r k v) ≡ count r + length (g r k v)) → (r : Read) (ls : List (List ℕ)) → count (after kind_of values_of r ls) ≡ count r + length (along kind_of values_of g r ls)
+  along-count : (count : Numbers → ℕ) → ((r : Numbers) (k : ℕ) (v : List ℕ) → count (taken r k v) ≡ count r + length (g r k v)) → (r : Numbers) (ls : List (List ℕ)) → count (after kind_of values_of r ls) ≡ count r + length (along kind_of values_of g r ls)
   unfolding along after
   along-count count more r [] = omega arith
   along-count count more r (l ∷ ls) =
       let a : List A = g r (kind_of l) (values_of l) in
-      let r' : Read = taken r (kind_of l) (values_of l) in
+      let r' : Numbers = taken r (kind_of l) (values_of l) in
       omega (arith, along-count count more r' ls, more r (kind_of l) (values_of l), length-append a (along kind_of values_of g r' ls))
 
 -- the file's items are among those that were stored
@@ -78,11 +80,11 @@ one-step : (m n p : ℕ) (b : Bool) → m ≤ n → m + cond (b && eqb p 3) 1 0 
 one-step m n p true h = third m n p (eqb p 3) (eqb p 0) refl refl h
 one-step m n p false h = omega arith
 
-items-step : (r : Read) (k : ℕ) (v : List ℕ) → r.items ≤ r.stored → (taken r k v).items ≤ (taken r k v).stored
+items-step : (r : Numbers) (k : ℕ) (v : List ℕ) → r.items ≤ r.stored → (taken r k v).items ≤ (taken r k v).stored
 unfolding taken taken_to
 items-step r k v h = one-step r.items r.stored (next r.phase k) (eqb k 3) h
 
-items-few : (r : Read) (ls : List (List ℕ)) → r.items ≤ r.stored → (after kind_of values_of r ls).items ≤ (after kind_of values_of r ls).stored
+items-few : (r : Numbers) (ls : List (List ℕ)) → r.items ≤ r.stored → (after kind_of values_of r ls).items ≤ (after kind_of values_of r ls).stored
 unfolding after
 items-few r [] h = h
 items-few r (l ∷ ls) h = items-few (taken r (kind_of l) (values_of l)) ls (items-step r (kind_of l) (values_of l) h)
@@ -98,15 +100,15 @@ only-long w k p l a h = go (eqb (kind_of l) k) (not (eqb p 0)) refl
     go true false e = omega (arith, mul-zero w)
     go false c e = omega (arith, mul-zero w)
 
-item-long : (r : Read) (l : List ℕ) → 7 * length (items_in r (kind_of l) (values_of l)) ≤ length l + 1
+item-long : (r : Numbers) (l : List ℕ) → 7 * length (items_in r (kind_of l) (values_of l)) ≤ length l + 1
 unfolding items_in
 item-long r l = only-long 7 3 (next r.phase (kind_of l)) l _ (omega arith)
 
-row_long : (r : Read) (l : List ℕ) → 9 * length (rows_in r (kind_of l) (values_of l)) ≤ length l + 1
+row_long : (r : Numbers) (l : List ℕ) → 9 * length (rows_in r (kind_of l) (values_of l)) ≤ length l + 1
 unfolding rows_in
 row_long r l = only-long 9 4 (next r.phase (kind_of l)) l _ (omega arith)
 
-place_long : (r : Read) (l : List ℕ) → 10 * length (places_in r (kind_of l) (values_of l)) ≤ length l + 1
+place_long : (r : Numbers) (l : List ℕ) → 10 * length (places_in r (kind_of l) (values_of l)) ≤ length l + 1
 unfolding places_in
 place_long r l = only-long 10 5 (next r.phase (kind_of l)) l _ (omega arith)
 
@@ -116,7 +118,7 @@ byte-same : (v : ℕ) → v ≤ 255 → byte v ≡ v ∷ []
 unfolding enc
 byte-same v h = ap (λ (x : ℕ). x ∷ []) (mod-eq_of_lt (omega arith))
 
-line-shared : (r : Read) (l : List ℕ) → flat_map byte (shared_in r (kind_of l) (values_of l)) ≡ shared_in r (kind_of l) (values_of l)
+line-shared : (r : Numbers) (l : List ℕ) → flat_map byte (shared_in r (kind_of l) (values_of l)) ≡ shared_in r (kind_of l) (values_of l)
 unfolding shared_in flat_map
 line-shared r l = go (eqb (kind_of l) 3) (not (eqb (next r.phase (kind_of l)) 0)) refl
   where
@@ -125,7 +127,7 @@ line-shared r l = go (eqb (kind_of l) 3) (not (eqb (next r.phase (kind_of l)) 0)
     go true false e = refl
     go false c e = refl
 
-along-shared : (r : Read) (ls : List (List ℕ)) → flat_map byte (along kind_of values_of shared_in r ls) ≡ along kind_of values_of shared_in r ls
+along-shared : (r : Numbers) (ls : List (List ℕ)) → flat_map byte (along kind_of values_of shared_in r ls) ≡ along kind_of values_of shared_in r ls
 unfolding along
 along-shared r [] = unfold flat_map in refl
 along-shared r (l ∷ ls) =
@@ -154,17 +156,57 @@ known s h =
     let all : List Fields = along kind_of values_of items_in begin ls in
     let n : ℕ = (after kind_of values_of begin ls).items in
     let size = lines-size s in
-    let stored = along-count items_in (λ (x : Read). x.stored) stored_more begin ls in
+    let stored = along-count items_in (λ (x : Numbers). x.stored) stored_more begin ls in
     let few = items-few begin ls (omega arith) in
     let whole : take n all ++ drop n all ≡ all = take-append-drop n all in
     record {
       items = sym (length-take-le n all (omega (arith, stored, few)));
       stored = rw whole (omega (arith, stored));
-      shared = omega (arith, along-count shared_in (λ (x : Read). x.stored) shared-more begin ls);
+      shared = omega (arith, along-count shared_in (λ (x : Numbers). x.stored) shared-more begin ls);
       bytes = along-shared begin ls;
-      rows = omega (arith, along-count rows_in (λ (x : Read). x.rows) rows_more begin ls);
-      places = omega (arith, along-count places_in (λ (x : Read). x.places) places-more begin ls);
+      rows = omega (arith, along-count rows_in (λ (x : Numbers). x.rows) rows_more begin ls);
+      places = omega (arith, along-count places_in (λ (x : Numbers). x.places) places-more begin ls);
       few_items = rw whole (omega (arith, along-few items_in 7 item-long begin ls, size, h));
       few_rows = omega (arith, along-few rows_in 9 row_long begin ls, size, h);
       few_places = omega (arith, along-few places_in 10 place_long begin ls, size, h);
     }
+
+-- ---- the number of the next line
+
+lines_rise : (r : Numbers) (ls : List (List ℕ)) → r.line ≤ (after kind_of values_of r ls).line
+unfolding after taken taken_to
+lines_rise r [] = omega arith
+lines_rise r (l ∷ ls) = omega (arith, lines_rise (taken r (kind_of l) (values_of l)) ls)
+
+-- the first line is line 1
+pub line_some : (s : List ℕ) → (read_input s).numbers.line ≡ 0 → ⊥
+unfolding read_input reading_of begin
+line_some s e = omega (arith, lines_rise begin (lines s))
+
+-- ---- numbers of 64 bits
+
+generation_fits : (b : Bool) (v w : Volume) → v.generation ≤ most → w.generation ≤ most → (cond b v w).generation ≤ most
+generation_fits true v w h k = h
+generation_fits false v w h k = k
+
+number_fits : (b : Bool) (f g : File) → f.number ≤ most → g.number ≤ most → (cond b f g).number ≤ most
+number_fits true f g h k = h
+number_fits false f g h k = k
+
+pub record Narrow (r : Numbers) : Type 0 where
+  pub generation : r.volume.generation ≤ most
+  pub number : r.file.number ≤ most
+
+narrow_after : (r : Numbers) (ls : List (List ℕ)) → Narrow r → Narrow (after kind_of values_of r ls)
+unfolding after taken taken_to
+narrow_after r [] n = n
+narrow_after r (l ∷ ls) n =
+    narrow_after (taken r (kind_of l) (values_of l)) ls
+    (record {
+      generation = generation_fits (eqb (next r.phase (kind_of l)) 2) (volume_of (values_of l)) r.volume ((read_sound l).fits 2) n.generation;
+      number = number_fits (eqb (kind_of l) 2 && eqb (next r.phase (kind_of l)) 3) (file_of (values_of l)) r.file ((read_sound l).fits 0) n.number;
+    })
+
+pub narrow : (s : List ℕ) → Narrow (read_input s).numbers
+unfolding read_input reading_of begin
+narrow s = narrow_after begin (lines s) (record { generation = omega arith; number = omega arith })

@@ -15,10 +15,10 @@ use Rattle.plan_bounds.specs.Widths.{edit_fits}
 use Rattle.plan_bounds.proofs.Fitting.{punch_fits, fallocate_fits, clone_fits}
 use Rattle.plan_bounds.specs.Ample.{most_records, most_places, enough, Ample}
 use Rattle.plan_bounds.proofs.Suffices.{punch-same, punch_never, fallocate-same, fallocate_never, clone-same, clone_never}
-use Rattle.read_order.specs.declared.Read.{Read}
+use Rattle.read_order.specs.Taking.{Numbers}
 use Rattle.extplan_operate.specs.Operations.{range_of, clone_range_of, operation}
 
-module _ (r : Read) (list shared source table places : List ℕ) where
+module _ (r : Numbers) (list shared source table places : List ℕ) where
   -- what holds of the outcomes of all three holds of the one that is asked for
   asked : (P : Outcome Plan → Type 0) (x y z : Outcome Plan) → P x → P y → P z → P (cond (eqb r.asked.kind 8) x (cond (eqb r.asked.kind 7) y z))
   asked P x y z p q t = go (eqb r.asked.kind 8) (eqb r.asked.kind 7)

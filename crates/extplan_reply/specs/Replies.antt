@@ -1,5 +1,5 @@
 -- What extplan answers to at most 65,536 bytes, line by line (document 01, "extplan").
-use Rattle.std.specs.Prelude.{cond, ◌≡◌, ℕ, eqb, take}
+use Rattle.std.specs.Prelude.{cond, ◌≡◌, ℕ, eqb, take, Result, Ok, Err}
 use mathlib.Core.List.{List, [], ◌∷◌, flat_map}
 use Rattle.table.specs.Rows.{row_numbers}
 use Rattle.item.specs.Items.{encode}
@@ -13,7 +13,7 @@ use Rattle.read_input.specs.Input.{read_input}
 use Rattle.extplan_operate.specs.Operations.{operation}
 use Rattle.print_line.specs.Lines.{fault_line}
 use Rattle.print_answer.specs.Printed.{printed, shown, HoldsAnswer}
-use Rattle.extplan_reply.specs.declared.Reply.{Reply}
+use Rattle.request.specs.declared.Answer.{Answer}
 
 -- the operation on what was read; "Items under a second `file` line are the clone's source", and their `shared` is not
 -- looked at
@@ -30,7 +30,16 @@ lines_or n ls = cond (eqb n 0) ls (fault_line n ∷ [])
 unfoldable pub answer_to : List ℕ → List (List ℕ)
 answer_to input = lines_or (fault (read_input input).numbers) (printed (operation_on (read_input input) enough))
 
+-- what a reply says, an answer or the line at fault, with a plan's lines in the outputs
+abbrev pub reply_lines : Result Answer ℕ → Outs → List (List ℕ)
+reply_lines (Ok a) o = shown a o
+reply_lines (Err n) o = fault_line n ∷ []
+
+abbrev pub HoldsReply : Result Answer ℕ → Outs → Type 0
+HoldsReply (Ok a) o = HoldsAnswer (said a) o
+HoldsReply (Err n) o = Unit {0}
+
 -- a reply to an input, with its lines in the outputs
-pub record Replied (input : List ℕ) (r : Reply) (o : Outs) : Type 0 where
-  pub lines : lines_or r.fault (shown r.answer o) ≡ answer_to input
-  pub holds : HoldsAnswer (said r.answer) o
+pub record Replied (input : List ℕ) (r : Result Answer ℕ) (o : Outs) : Type 0 where
+  pub lines : reply_lines r o ≡ answer_to input
+  pub holds : HoldsReply r o

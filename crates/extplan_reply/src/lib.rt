@@ -11,14 +11,8 @@ ghost use Rattle.extplan_reply.specs.Raw.{Roomy, Spacious};
 
 use request::Answer;
 
-// The line of the input that is at fault, or 0, and the operation's answer where none is.
-#[derive(Clone, Copy)]
-pub struct Reply {
-    pub fault: usize,
-    pub answer: Answer,
-}
-
-// The reply to an input, with a plan's lines in the outputs.
+// The reply to an input, with a plan's lines in the outputs: the operation's answer, or the number of the line that is at
+// fault.
 pub fn answer(
     input: &[u8],
     items: &mut [u8],
@@ -31,31 +25,24 @@ pub fn answer(
     releases: &mut [u64],
     adds: &mut [u64],
     writes: &mut [u64],
-) -> Reply
+) -> Result<Answer, usize>
     requires input_len_bound { length input.now ≤ 65536 }
     requires roomy { Roomy items.old shared.old table.old places.old }
     requires spacious { Spacious edits.old shares.old unrefs.old releases.old adds.old writes.old }
     ensures { Replied input.now result (outs edits.new shares.new unrefs.new releases.new adds.new writes.new) }
 {
-    let r = read_input::read_input(input, items, shared, table, places);
-    let fault = read_order::fault(r);
-    if fault != 0 {
-        return Reply {
-            fault,
-            answer: Answer::Nothing,
-        };
-    }
-    let answer = extplan_operate::operate(
-        r, items, shared, table, places, edits, shares, unrefs, releases, adds, writes,
-    );
-    Reply { fault: 0, answer }
+    let read = read_input::read_input(input, items, shared, table, places)?;
+    let request = read_order::asked(read)?;
+    Ok(extplan_operate::operate(
+        read, request, items, shared, table, places, edits, shares, unrefs, releases, adds, writes,
+    ))
 }
 
 // Line n, from 0, of the answer to an input whose reply is in the outputs, put at the start of `line`; its length, or 0 where
 // there is no such line.
 pub fn reply_line(
     input: &[u8],
-    r: Reply,
+    reply: Result<Answer, usize>,
     edits: &[u8],
     shares: &[u64],
     unrefs: &[u64],
@@ -65,16 +52,15 @@ pub fn reply_line(
     n: usize,
     line: &mut [u8],
 ) -> usize
-    requires replied { Replied input.now r (outs edits.now shares.now unrefs.now releases.now adds.now writes.now) }
+    requires replied { Replied input.now reply (outs edits.now shares.now unrefs.now releases.now adds.now writes.now) }
     requires in_bounds { 256 ≤ length line.old }
     ensures { Added (line_at n (answer_to input.now)) 0 line.old result line.new }
 {
-    if r.fault == 0 {
-        let a = r.answer;
-        return print_answer::answer_line(a, edits, shares, unrefs, releases, adds, writes, n, line);
+    match reply {
+        Ok(answer) => print_answer::answer_line(
+            answer, edits, shares, unrefs, releases, adds, writes, n, line,
+        ),
+        Err(fault) if n == 0 => print_answer::put_fault(fault as u64, line),
+        Err(_) => 0,
     }
-    if n == 0 {
-        return print_answer::put_fault(r.fault as u64, line);
-    }
-    0
 }

@@ -6,7 +6,7 @@ use Rattle.clone_span.specs.declared.CloneRange.{CloneRange}
 use Rattle.read_line.specs.Forms.{kind_number}
 use Rattle.read_line.specs.declared.Form.{Form}
 use Rattle.read_order.specs.declared.Request.{Request}
-use Rattle.read_order.specs.declared.Request.TheVariants.{Punch, Fallocate, Clone}
+use Rattle.read_order.specs.declared.Request.TheVariants.{Punch, Fallocate, Clone, CloneFrom}
 use Rattle.read_order.specs.declared.Phase.{Phase}
 use Rattle.read_order.specs.declared.Phase.TheVariants as Phases
 use Rattle.read_order.specs.declared.Read.{Read}
@@ -17,10 +17,11 @@ use Rattle.read_order.specs.Taking.{Asked, Numbers, no_request, no_file, taken}
 abbrev pub asked_in : Request → Asked
 asked_in (Punch r) = record { kind = 6; from = r.offset; to = 0; length = r.length; keep = false }
 asked_in (Fallocate r keep) = record { kind = 7; from = r.offset; to = 0; length = r.length; keep = keep }
-asked_in (Clone s f) = record { kind = 8; from = s.from; to = s.to; length = s.length; keep = false }
+asked_in (Clone s) = record { kind = 8; from = s.from; to = s.to; length = s.length; keep = false }
+asked_in (CloneFrom s f) = record { kind = 8; from = s.from; to = s.to; length = s.length; keep = false }
 
 abbrev pub source_in : Request → Option File
-source_in (Clone s f) = f
+source_in (CloneFrom s f) = Some f
 source_in r = None
 
 -- a range, and a clone's, by a line's numbers

@@ -1,21 +1,22 @@
 // One line of extplan's input, taken into what was read before it.
 #![tactic(auto, unfolding(crate::specs::Order::next, crate::specs::Taking::begin, crate::specs::Taking::taken, crate::specs::Taking::taken_to, crate::specs::Taking::fault))]
 
-ghost use Rattle.std.specs.Prelude.{◌≡◌, ◌≢◌, MatchResult};
+ghost use Rattle.std.specs.Prelude.{◌≡◌, MatchResult};
 ghost use Rattle.read_order.specs.Taking.{volume_of, file_of, begin, fault};
-ghost use Rattle.read_order.specs.Numbers.{numbers, asked_in, source_in, request_in, second_file, range_in, span_in, Takes};
+ghost use Rattle.read_order.specs.Numbers.{numbers, range_in, span_in, Takes};
 ghost use Rattle.read_order.specs.Few.{Few};
 
 use clone_span::CloneRange;
 use read_line::{Form, Kind};
 use request::{File, Range, Volume};
 
-// What is asked for. A fallocate may keep the size; a clone may take from another file.
+// What is asked for. A fallocate may keep the size; a clone takes from its own file or from another.
 #[derive(Clone, Copy)]
 pub enum Request {
     Punch(Range),
     Fallocate(Range, bool),
-    Clone(CloneRange, Option<File>),
+    Clone(CloneRange),
+    CloneFrom(CloneRange, File),
 }
 
 // How far the input has come: `File` and `Source`, a clone's second file, go with items of theirs.
@@ -171,11 +172,11 @@ pub fn taken(r: Read, line: Form) -> Option<Read>
             ..read
         }),
         (Phase::File | Phase::Extents, Kind::Clone) => Some(Read {
-            phase: Phase::Request(Request::Clone(span_of(v), None)),
+            phase: Phase::Request(Request::Clone(span_of(v))),
             ..read
         }),
         (Phase::Source(file) | Phase::SourceExtents(file), Kind::Clone) => Some(Read {
-            phase: Phase::Request(Request::Clone(span_of(v), Some(file))),
+            phase: Phase::Request(Request::CloneFrom(span_of(v), file)),
             ..read
         }),
         _ => None,
@@ -184,7 +185,7 @@ pub fn taken(r: Read, line: Form) -> Option<Read>
 
 // The request; where there is none, the number of the line at fault.
 pub fn asked(r: Read) -> Result<Request, usize>
-    ensures { MatchResult result (λ q. (fault (numbers r) ≡ 0) × (asked_in q ≡ request_in r.phase) × (source_in q ≡ second_file r.phase)) (λ n. (fault (numbers r) ≡ n) × (n ≡ r.line)) }
+    ensures { MatchResult result (λ q. (r.phase ≡ Phase.Request q) × (fault (numbers r) ≡ 0)) (λ n. (n ≡ r.line) × (fault (numbers r) ≡ n)) }
 {
     match r.phase {
         Phase::Request(request) => Ok(request),

@@ -1,14 +1,15 @@
-use mathlib.Core.Path.{◌∙◌, sym}
-use native.Mathlib.Omega.{arith}
-use Rattle.extplan_reply.proofs.Replying.{lying, fault_replied, plan-replied}
+use Rattle.extplan_reply.proofs.Replying.{line_replied, end-replied, asked_lying, asked_replied}
 use Rattle.extplan_reply.proofs.answer.Goals as goal
 
-pub returns-then-fault-ne0 : goal.returns-then-fault-ne0
-returns-then-fault-ne0 c = fault_replied _ c.requires.input_len_bound _ _ _ c.requires.roomy c.read_input-r.ensures _ _ c.fault-fault.ensures c.if-fault-ne0.true
+pub returns-in_err-read : goal.returns-in_err-read
+returns-in_err-read c = let e = c.in_err-read.ensures in line_replied _ _ _ c.in_err-read.field-0.0 c.from_residual.ensures.1 e.0 e.1
 
-pub operate-answer-requires : goal.operate-answer-requires
-operate-answer-requires c = lying _ c.requires.input_len_bound _ _ _ c.requires.roomy c.read_input-r.ensures
+pub returns-in_err-request : goal.returns-in_err-request
+returns-in_err-request c = let e = c.in_err-request.ensures in
+    end-replied _ _ _ c.in_err-request.field-0.0 c.from_residual-in_err-request.ensures.1 _ c.in_ok-read.ensures.numbers e.0 e.1
+
+pub operate-requires : goal.operate-requires
+operate-requires c = asked_lying _ c.requires.input_len_bound _ c.in_ok-read.read _ c.requires.roomy c.in_ok-read.ensures _ c.in_ok-request.ensures.0
 
 pub returns : goal.returns
-returns c = let k = c.read_input-r.type_inv in
-    plan-replied _ c.requires.input_len_bound _ _ _ c.requires.roomy c.read_input-r.ensures _ _ _ (sym c.if-fault-ne0.false ∙ c.fault-fault.ensures) c.requires.spacious.ample (omega (arith, k.1.1.0)) (omega (arith, k.1.1.1.0)) c.operate-answer.ensures
+returns c = asked_replied _ c.requires.input_len_bound _ c.in_ok-read.read _ c.requires.roomy c.in_ok-read.ensures _ c.in_ok-request.ensures.0 _ _ _ c.in_ok-request.ensures.1 c.requires.spacious.ample c.operate.ensures
