@@ -6,6 +6,10 @@ use Prim.Native.Nat.{ℕ, ◌+◌, ◌<◌, ◌^◌, max}
 use lib.Dec.{eqb, leb}
 use lib.ListN.{length}
 use borrow.Author.Tests.{eqb-true}
+use Rattle.std.specs.Prelude.{Option, Result, Err}
+use Rattle.records.specs.declared.refusal.Refusal.{Refusal}
+use Rattle.records.specs.Refusals.{number}
+use Rattle.clone.proofs.Refusing.{number-some}
 use Rattle.records.specs.Stages.{first, stage, every}
 use Rattle.records.proofs.Tests.{both_left, first-zero}
 use Rattle.item.specs.Items.{Fields, items}
@@ -26,9 +30,13 @@ use Rattle.clone_span.specs.declared.CloneRange.{CloneRange}
 use Rattle.clone_span.specs.Spans.{destination_refusal, destination_record, growth_refusal}
 use Rattle.clone_def.specs.Clone.{drafted_lent}
 use Rattle.clone_def.proofs.Planned.{destination-ranged}
-use Rattle.clone.specs.Raw.{meant, copying_of, lent_asked, destination_asked, copies_asked, Chosen}
+use Rattle.clone.specs.Raw.{meant, copying_of, lent_asked, destination_asked, copies_asked, answered, Chosen}
 use Rattle.clone.proofs.Operating as op
 use Rattle.clone.proofs.Finishing.{replacing_now}
+
+-- a refusal that is passed on is the draft's, if it is where it is not 0
+pub told_refused : (o : Outcome Plan) (w : ℕ) (r : Result (Option Numbers) Refusal) (e : Refusal) → w ≡ number e → r ≡ Err e → ((w ≡ 0 → ⊥) → refused w ≡ told o) → answered r ≡ told o
+told_refused o w r e p q f = ap answered q ∙ ap (λ (n : ℕ). refused n) (sym p) ∙ f (λ z. number-some e (sym p ∙ z))
 
 module _ (v : Volume) (dst src : File) (own : Bool) (s : CloneRange) (list shared source table : List ℕ) (ch : Chosen own dst src list source)
     (m : CloneRange) (em : m ≡ meant src.size s) (why : ℕ) (ew : why ≡ lent_asked v dst src own m list shared source table) where

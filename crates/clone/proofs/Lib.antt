@@ -1,3 +1,4 @@
+pub mod Refusing
 pub mod Asking
 pub mod Operating
 pub mod Finishing

@@ -1,11 +1,15 @@
 -- For the code only: the stages of a clone as the private functions group them, and what they ask.
-use Rattle.std.specs.Prelude.{◌≡◌, Bool, true, List, ℕ, ◌-◌, ◌^◌, eqb}
+use Rattle.std.specs.Prelude.{Option, Some, None, Result, Ok, Err, ◌≡◌, Bool, true, List, ℕ, ◌-◌, ◌^◌, eqb}
+use Rattle.records.specs.declared.refusal.Refusal.{Refusal}
+use Rattle.records.specs.Refusals.{number}
 use Rattle.records.specs.Stages.{whenever, first, stage}
 use Rattle.item.specs.Items.{Fields}
 use Rattle.table.specs.declared.Row.{Row}
 use Rattle.table.specs.Rows.{one_more_reference}
 use Rattle.request.specs.declared.Volume.{Volume}
 use Rattle.request.specs.declared.File.{File}
+use Rattle.request.specs.declared.Numbers.{Numbers}
+use Rattle.request.specs.Answers.{Outcome, plan, nothing, refused}
 use Rattle.request.specs.Lent.{lent2}
 use Rattle.cut_def.specs.Refs.{Ref}
 use Rattle.ref_def.specs.Drops.{drops_refusal}
@@ -40,6 +44,12 @@ copies_asked generation c before shared source rs =
     first (drops_refusal rs (clone_drops c before shared))
     (first (stage (λ (r : Ref). one_more_reference r.start rs) (clone_splits c before))
     (first (stage (source_record rs c) source) (whenever (eqb generation (2 ^ 64 - 1)) 13)))
+
+-- what a first half answers
+abbrev pub answered : Result (Option Numbers) Refusal → Outcome Numbers
+answered (Ok (Some n)) = plan n
+answered (Ok None) = nothing
+answered (Err refusal) = refused (number refusal)
 
 -- the source's file and list are the destination's own for one file
 pub record Chosen (own : Bool) (dst src : File) (list source : List ℕ) : Type 0 where

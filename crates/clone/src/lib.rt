@@ -8,7 +8,7 @@ ghost use Rattle.item.specs.Items.{items};
 ghost use Rattle.cut_segment.specs.Segments.{Runs};
 ghost use Rattle.table.specs.Rows.{rows, table_kept};
 ghost use Rattle.request.specs.Lent.{sector_sound};
-ghost use Rattle.request.specs.Answers.{plan, said};
+ghost use Rattle.request.specs.Answers.{plan};
 ghost use Rattle.plan_def.specs.Plans.{numbers, told};
 ghost use Rattle.plan_def.specs.Outputs.{four, Met};
 ghost use Rattle.clone_items.specs.Raw.{InFiles, range_kept};
@@ -16,13 +16,12 @@ ghost use Rattle.clone_items.specs.Replacing.{plan_for};
 ghost use Rattle.clone_lay.specs.Raw.{Replacing};
 ghost use Rattle.clone_span.specs.Spans.{resolved};
 ghost use Rattle.clone_def.specs.Clone.{chosen, with_room, drafted_lent, clone_lent};
-ghost use Rattle.clone.specs.Raw.{meant, copying_of, lent_asked, destination_asked, copies_asked, Chosen};
+ghost use Rattle.clone.specs.Raw.{meant, copying_of, lent_asked, destination_asked, copies_asked, answered, Chosen};
 
 use change_lay::Counts;
 use clone_items::Copying;
 use clone_span::CloneRange;
-use records::refusal::{self, Refusal, number_of};
-use records::{first, whenever};
+use records::refusal::{Refusal, check, number_of};
 use request::{Answer, File, Numbers, Volume};
 
 // The list that is read as source: for one file cloned into itself the destination's.
@@ -50,14 +49,11 @@ fn lent_asked(
     shared: &[u8],
     source: &[u8],
     table: &[u64],
-) -> u8
-    ensures { result ≡ lent_asked v dst src own s list.now shared.now source.now table.now }
+) -> Result<(), Refusal>
+    ensures { why result ≡ lent_asked v dst src own s list.now shared.now source.now table.now }
 {
-    let lent = number_of(request::lent_refusal2(v, dst, src, own, list, shared, source, table));
-    if lent != 0 {
-        return lent;
-    }
-    number_of(clone_span::source_refusal(v.sector, src.size, s))
+    request::lent_refusal2(v, dst, src, own, list, shared, source, table)?;
+    clone_span::source_refusal(v.sector, src.size, s)
 }
 
 // Refusals 6, 23 and 24, those of the destination's records, and 25.
@@ -77,17 +73,22 @@ fn destination_asked(
 }
 
 // The refusals of drops, of splits and of the source's records, and 13. The shared bytes do not count.
-fn copies_asked(generation: u64, c: Copying, list: &[u8], source: &[u8], table: &[u64]) -> u8
+fn copies_asked(
+    generation: u64,
+    c: Copying,
+    list: &[u8],
+    source: &[u8],
+    table: &[u64],
+) -> Result<(), Refusal>
     requires table_value { table_kept (rows table.now) ≡ true }
     requires in_files { InFiles c × (every range_kept (items source.now) ≡ true) × Runs 0 (items list.now) }
-    ensures { (bs : List ℕ) → length bs ≡ length (items list.now) → result ≡ copies_asked generation c (items list.now) bs (items source.now) (rows table.now) }
+    ensures { (bs : List ℕ) → length bs ≡ length (items list.now) → why result ≡ copies_asked generation c (items list.now) bs (items source.now) (rows table.now) }
 {
     let k = clone_lay::cut_for(c);
-    let drop = number_of(cut_touched::drops_refusal(k, list, table));
-    let split = number_of(cut_touched::splits_refusal(list, table, k.lo, k.hi));
-    let records = number_of(clone_items::source_records(c, table, source));
-    let last = whenever(generation == 18446744073709551615, refusal::GENERATION);
-    first(drop, first(split, first(records, last)))
+    cut_touched::drops_refusal(k, list, table)?;
+    cut_touched::splits_refusal(list, table, k.lo, k.hi)?;
+    clone_items::source_records(c, table, source)?;
+    check(generation != 18446744073709551615, Refusal::Generation)
 }
 
 // ---- the two halves
@@ -168,29 +169,20 @@ fn draft_clone(
     shared: &[u8],
     source: &[u8],
     table: &[u64],
-) -> Answer
+) -> Result<Option<Numbers>, Refusal>
     requires { Chosen own dst src list.now source.now }
-    ensures { said result ≡ told (drafted_lent v dst src own s list.now shared.now source.now table.now) }
+    ensures { answered result ≡ told (drafted_lent v dst src own s list.now shared.now source.now table.now) }
 {
     let m = meant(src.size, s);
-    let lent = lent_asked(v, dst, src, own, m, list, shared, source, table);
-    if lent != 0 {
-        return Answer::Refused(lent);
-    }
+    lent_asked(v, dst, src, own, m, list, shared, source, table)?;
     if m.length == 0 {
-        return Answer::Nothing;
+        return Ok(None);
     }
-    let asked = number_of(destination_asked(v.sector, own, dst.size, m, list));
-    if asked != 0 {
-        return Answer::Refused(asked);
-    }
+    destination_asked(v.sector, own, dst.size, m, list)?;
     let c = copying_of(v.sector, dst.number, m);
-    let why = copies_asked(v.generation, c, list, source, table);
-    if why != 0 {
-        return Answer::Refused(why);
-    }
-    let size = records::larger(dst.size, m.to + m.length);
-    Answer::Planned(count_clone(c, size, list, shared, source, table))
+    copies_asked(v.generation, c, list, source, table)?;
+    let size = dst.size.max(m.to + m.length);
+    Ok(Some(count_clone(c, size, list, shared, source, table)))
 }
 
 // The second half of a clone whose plan has these numbers: 27, and the writing, which cannot fail.
@@ -250,21 +242,23 @@ pub fn clone_range<'a>(
 {
     let from = source_list(own, list, source);
     let file = source_file(own, dst, src);
-    let draft = draft_clone(v, dst, file, own, s, list, shared, from, table);
-    match draft {
-        Answer::Refused(why) => Answer::Refused(why),
-        Answer::Nothing => Answer::Nothing,
-        Answer::Planned(n) => finish_clone(
-            copying_of(v.sector, dst.number, meant(file.size, s)),
-            n,
-            list,
-            shared,
-            from,
-            table,
-            edits,
-            shares,
-            unrefs,
-            releases,
-        ),
-    }
+    let draft = match draft_clone(v, dst, file, own, s, list, shared, from, table) {
+        Ok(draft) => draft,
+        Err(refusal) => return Answer::Refused(refusal.number()),
+    };
+    let Some(n) = draft else {
+        return Answer::Nothing;
+    };
+    finish_clone(
+        copying_of(v.sector, dst.number, meant(file.size, s)),
+        n,
+        list,
+        shared,
+        from,
+        table,
+        edits,
+        shares,
+        unrefs,
+        releases,
+    )
 }

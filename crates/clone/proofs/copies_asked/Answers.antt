@@ -1,7 +1,7 @@
+use Rattle.std.proofs.Common.{rules}
+use Rattle.records.specs.Stages.{first}
 use Rattle.item.specs.Items.{items}
-use Rattle.table.specs.Rows.{rows}
-use mathlib.Core.Path.{◌∙◌}
-use Rattle.clone.proofs.Asking.{copies-told}
+use Rattle.clone.proofs.Asking.{dropped-same}
 use Rattle.clone.proofs.copies_asked.Goals as goal
 
 pub drops_refusal-requires : goal.drops_refusal-requires
@@ -10,5 +10,18 @@ drops_refusal-requires c = let q = c.requires in (q.table_value, q.in_files.2)
 pub splits_refusal-requires : goal.splits_refusal-requires
 splits_refusal-requires c = let q = c.requires in (q.table_value, q.in_files.2)
 
+pub returns-in_err-drops_refusal : goal.returns-in_err-drops_refusal
+unfolding first
+returns-in_err-drops_refusal c = λ bs n. let d = c.drops_refusal.ensures bs n in rw (dropped-same c.args.c _ (items c.args.list.now) bs c.cut_for-k.ensures) (search rules)
+
+pub returns-in_err-splits_refusal : goal.returns-in_err-splits_refusal
+unfolding first
+returns-in_err-splits_refusal c = λ bs n. let d = c.drops_refusal.ensures bs n in let p = rw c.cut_for-k.ensures at c.splits_refusal.ensures in rw (dropped-same c.args.c _ (items c.args.list.now) bs c.cut_for-k.ensures) (search rules)
+
+pub returns-in_err-source_records : goal.returns-in_err-source_records
+unfolding first
+returns-in_err-source_records c = λ bs n. let d = c.drops_refusal.ensures bs n in let p = rw c.cut_for-k.ensures at c.splits_refusal.ensures in rw (dropped-same c.args.c _ (items c.args.list.now) bs c.cut_for-k.ensures) (search rules)
+
 pub returns : goal.returns
-returns c = let a = c.args in copies-told a.generation a.c c.cut_for-k.result (items a.list.now) (items a.source.now) (rows a.table.now) _ _ _ _ _ _ _ c.cut_for-k.ensures (λ bs e. c.number_of-drop.ensures ∙ c.drops_refusal.ensures bs e) (c.number_of-split.ensures ∙ c.splits_refusal.ensures) (c.number_of-records.ensures ∙ c.source_records.ensures) c.whenever-last.ensures c.first.ensures c.first-2.ensures c.first-3.ensures
+unfolding first
+returns c = λ bs n. let d = c.drops_refusal.ensures bs n in let p = rw c.cut_for-k.ensures at c.splits_refusal.ensures in rw (dropped-same c.args.c _ (items c.args.list.now) bs c.cut_for-k.ensures) (search rules)
