@@ -9,17 +9,14 @@ ghost use Rattle.cut_segment.specs.Segments.{item_at, bounded, Good, Around};
 ghost use Rattle.cut_joins.specs.Joins.{Joined, Within, Behind, Before, Joining};
 
 use cut_segment::{Segment, put_record, record_at, starting_by};
-use item::Item;
+use item::{Item, RECORD};
 
 // Record k of n taken away; those behind it move down.
 fn remove(seg: &mut [u8], k: usize, n: usize)
     requires { (k < n) × (n ≤ length (items seg.old)) }
     ensures { take (n - 1) (items seg.new) ≡ take k (items seg.old) ++ drop (k + 1) (take n (items seg.old)) }
 {
-    for i in k..n - 1 {
-        let next = record_at(seg, i + 1);
-        put_record(seg, i, next);
-    }
+    seg[k * RECORD..n * RECORD].rotate_left(RECORD);
 }
 
 // Two items joined, if they are joinable.
@@ -51,7 +48,7 @@ fn join_end(list: &[u8], seg: &mut [u8], s: Segment, generation: u64) -> Segment
     requires { Good list.now s seg.old × (0 < s.count) }
     ensures { Behind generation list.now s seg.old (s.count - 1) result seg.new }
 {
-    if s.to == list.len() / item::RECORD {
+    if s.to == list.len() / RECORD {
         return s;
     }
     let last = s.count - 1;

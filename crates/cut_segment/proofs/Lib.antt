@@ -5,3 +5,4 @@ pub mod Segments
 pub mod Touching
 pub mod Inserting
 pub mod Spans
+pub mod Turned

@@ -164,13 +164,8 @@ fn slide(seg: &mut [u8], k: usize, n: usize, item: Item)
     requires { (k ≤ n) × (n < length (items seg.old)) }
     ensures { take (n + 1) (items seg.new) ≡ take k (items seg.old) ++ fields item ∷ drop k (take n (items seg.old)) }
 {
-    let mut carried = item;
-    for i in k..n {
-        let next = record_at(seg, i);
-        put_record(seg, i, carried);
-        carried = next;
-    }
-    put_record(seg, n, carried);
+    put_record(seg, n, item);
+    seg[k * RECORD..(n + 1) * RECORD].rotate_right(RECORD);
 }
 
 // An item put among a segment's, at its key.
@@ -181,8 +176,7 @@ pub fn insert_item(seg: &mut [u8], s: Segment, item: Item) -> Segment
     let k = starting_by(seg, 0, s.count, item.key);
     slide(seg, k, s.count, item);
     Segment {
-        from: s.from,
-        to: s.to,
         count: s.count + 1,
+        ..s
     }
 }
