@@ -15,6 +15,7 @@ ghost use Rattle.plan_def.specs.Outputs.{ref_numbers};
 ghost use Rattle.plan_lines.specs.Lines.{Laid};
 ghost use Rattle.cut_splits.specs.Splits.{split_refusal, elsewhere, shared, split_share, counted};
 
+use drop_lines::Cut;
 use item::Item;
 use records::refusal::Refusal;
 
@@ -42,19 +43,19 @@ pub fn splits_refusal(list: &[u8], table: &[u64], lo: u64, hi: u64) -> Result<()
     Ok(())
 }
 
-// Whether an item is split and its extent is none of two.
-fn is_shared(item: Item, lo: u64, hi: u64, one: u64, two: u64) -> bool
-    ensures { result ≡ shared lo hi one two (fields item) }
+// Whether an item is split and its extent is none of the cut's two.
+fn is_shared(k: Cut, item: Item) -> bool
+    ensures { result ≡ shared k.lo k.hi k.one k.two (fields item) }
 {
     let start = item.extent_start();
-    cut_def::is_split(lo, hi, item) && !(start == one || start == two)
+    cut_def::is_split(k.lo, k.hi, item) && !(start == k.one || start == k.two)
 }
 
-fn put_split(item: Item, lo: u64, hi: u64, one: u64, two: u64, out: &mut [u64], n: usize) -> usize
+fn put_split(k: Cut, item: Item, out: &mut [u64], n: usize) -> usize
     requires { n + 1 < 2 ^ 64 }
-    ensures { Laid ref_numbers 2 n (split_share lo hi one two (fields item)) out.old result out.new }
+    ensures { Laid ref_numbers 2 n (split_share k.lo k.hi k.one k.two (fields item)) out.old result out.new }
 {
-    if is_shared(item, lo, hi, one, two) {
+    if is_shared(k, item) {
         plan_lines::put_ref(out, n, item.extent_start(), item.reference())
     } else {
         n
@@ -62,21 +63,13 @@ fn put_split(item: Item, lo: u64, hi: u64, one: u64, two: u64, out: &mut [u64], 
 }
 
 // The splits' shares, but for those of two extents, whose references are compared; 0 is no extent.
-pub fn put_splits(
-    list: &[u8],
-    lo: u64,
-    hi: u64,
-    one: u64,
-    two: u64,
-    out: &mut [u64],
-    n: usize,
-) -> usize
+pub fn put_splits(k: Cut, list: &[u8], out: &mut [u64], n: usize) -> usize
     requires { n + length (items list.now) < 2 ^ 64 }
-    ensures { Laid ref_numbers 2 n (keep (elsewhere (one ∷ two ∷ [])) (map ref_of (keep (split lo hi) (items list.now)))) out.old result out.new }
+    ensures { Laid ref_numbers 2 n (keep (elsewhere (k.one ∷ k.two ∷ [])) (map ref_of (keep (split k.lo k.hi) (items list.now)))) out.old result out.new }
 {
     let mut m = n;
     for item in item::items(list) {
-        m = put_split(item, lo, hi, one, two, out, m);
+        m = put_split(k, item, out, m);
     }
     m
 }

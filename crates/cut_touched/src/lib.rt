@@ -53,8 +53,7 @@ pub fn put_splits(k: Cut, list: &[u8], out: &mut [u64], n: usize) -> usize
     requires { (n + length (items list.now) < 2 ^ 64) × Runs 0 (items list.now) }
     ensures { Laid ref_numbers 2 n (keep (elsewhere (k.one ∷ k.two ∷ [])) (map ref_of (keep (split k.lo k.hi) (items list.now)))) out.old result out.new }
 {
-    let part = touched_part(list, k.lo, k.hi);
-    cut_splits::put_splits(part, k.lo, k.hi, k.one, k.two, out, n)
+    cut_splits::put_splits(k, touched_part(list, k.lo, k.hi), out, n)
 }
 
 // `drop_lines::drops_refusal` of such a list.

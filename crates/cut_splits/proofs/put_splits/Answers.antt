@@ -15,7 +15,7 @@ use Rattle.cut_splits.proofs.put_splits.Goals as goal
 pub loop-item-init : goal.loop-item-init
 loop-item-init c = let a = c.args in
     let e : left c.into_iter-item-iterator.result ≡ items a.list.now = ap left c.into_iter-item-iterator.ensures.into_iter_gives ∙ c.items-item-items.ensures.1 in
-    rw e (omega arith, rw (kept_flat (split a.lo a.hi) ref_of (elsewhere (a.one ∷ a.two ∷ [])) (items a.list.now)) (going_first ref_numbers 2 _ _ _))
+    rw e (omega arith, rw (kept_flat (split a.k.lo a.k.hi) ref_of (elsewhere (a.k.one ∷ a.k.two ∷ [])) (items a.list.now)) (going_first ref_numbers 2 _ _ _))
 
 pub put_split-m-requires : goal.put_split-m-requires
 put_split-m-requires c = omega (arith, ap length (next_left c.loop-item.item-iterator c.next.new.self _ _ c.in-Some.is c.next.ensures.steps))
@@ -24,10 +24,10 @@ pub loop-item-preserved : goal.loop-item-preserved
 loop-item-preserved c = let a = c.args in
     let f = fields c.in-Some.item in
     let e = next_left c.loop-item.item-iterator c.next.new.self _ _ c.in-Some.is c.next.ensures.steps in
-    (omega (arith, ap length e, c.put_split-m.ensures.lines, only-few (shared a.lo a.hi a.one a.two f) (ref_of f)), next_turn ref_numbers 2 (split_share a.lo a.hi a.one a.two) _ _ _ _ _ _ c.loop-item.invariant.1 f _ e _ _ c.put_split-m.ensures)
+    (omega (arith, ap length e, c.put_split-m.ensures.lines, only-few (shared a.k.lo a.k.hi a.k.one a.k.two f) (ref_of f)), next_turn ref_numbers 2 (split_share a.k.lo a.k.hi a.k.one a.k.two) _ _ _ _ _ _ c.loop-item.invariant.1 f _ e _ _ c.put_split-m.ensures)
 
 pub shape_of-out : goal.shape_of-out
 shape_of-out c = going_length ref_numbers 2 (omega arith) (λ b. refl) _ _ _ _ _ _ c.loop-item.invariant.1
 
 pub returns : goal.returns
-returns c = let a = c.args in none_laid ref_numbers 2 (split_share a.lo a.hi a.one a.two) _ _ _ _ _ _ c.loop-item.invariant.1 (none_left c.loop-item.item-iterator c.next.new.self _ c.in-None.is c.next.ensures.steps)
+returns c = let a = c.args in none_laid ref_numbers 2 (split_share a.k.lo a.k.hi a.k.one a.k.two) _ _ _ _ _ _ c.loop-item.invariant.1 (none_left c.loop-item.item-iterator c.next.new.self _ c.in-None.is c.next.ensures.steps)

@@ -13,4 +13,4 @@ use Rattle.cut_splits.proofs.put_splits.Given as goal
 abbrev pub invariant-loop-item : goal.invariant-loop-item
 invariant-loop-item l =
     (l.m + length (left l.item-iterator) ≤ l.n + length (items l.list))
-    × Going ref_numbers 2 l.n (keep (elsewhere (l.one ∷ l.two ∷ [])) (map ref_of (keep (split l.lo l.hi) (items l.list)))) l.initial.out l.m (flat_map (split_share l.lo l.hi l.one l.two) (left l.item-iterator)) l.out
+    × Going ref_numbers 2 l.n (keep (elsewhere (l.k.one ∷ l.k.two ∷ [])) (map ref_of (keep (split l.k.lo l.k.hi) (items l.list)))) l.initial.out l.m (flat_map (split_share l.k.lo l.k.hi l.k.one l.k.two) (left l.item-iterator)) l.out
