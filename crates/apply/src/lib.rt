@@ -11,6 +11,7 @@ ghost use Rattle.apply_refusals.specs.Stages.{Stands};
 ghost use Rattle.apply.specs.Outcomes.{MetApplying};
 ghost use Rattle.apply.specs.Raw.{ReadyFor, Zeros, apply_to};
 
+use apply_counts::RowCounts;
 use apply_refusals::Parts;
 use records::refusal::Refusal;
 
@@ -39,15 +40,13 @@ fn apply_counted(
     table: &mut [u64],
     edits: &[u8],
     adds: &[u64],
-    gained: &[u64],
-    lost: &[u64],
-    gone: &[u8],
+    counts: RowCounts,
     missing: Result<(), Refusal>,
 ) -> Result<Sizes, Refusal>
     requires { ReadyFor target list.old table.old edits.now
-        × (target.rows ≤ length gained.now) × (target.rows ≤ length lost.now) × (target.rows ≤ length gone.now)
-        × ((p : Plan) × Stands edits.now adds.now (rows_in target.rows table.old) gained.now lost.now gone.now (why missing) p) }
-    ensures { (p : Plan) → Stands edits.now adds.now (rows_in target.rows table.old) gained.now lost.now gone.now (why missing) p
+        × (target.rows ≤ length counts.gained.now) × (target.rows ≤ length counts.lost.now) × (target.rows ≤ length counts.gone.now)
+        × ((p : Plan) × Stands edits.now adds.now (rows_in target.rows table.old) counts.gained.now counts.lost.now counts.gone.now (why missing) p) }
+    ensures { (p : Plan) → Stands edits.now adds.now (rows_in target.rows table.old) counts.entry.gained.now counts.entry.lost.now counts.entry.gone.now (why missing) p
         → MetApplying (apply_to target list.old table.old p) result list table }
 {
     let end = target.items * item::RECORD;
@@ -63,21 +62,11 @@ fn apply_counted(
         space,
         edits,
         adds,
-        gained,
-        lost,
-        gone,
+        counts,
         missing,
     )?;
     let items = apply_items::items_after(list, target.items, edits);
-    let rows = apply_rows::rows_after(
-        table,
-        target.rows,
-        target.generation,
-        gained,
-        lost,
-        gone,
-        adds,
-    );
+    let rows = apply_rows::rows_after(table, target.rows, target.generation, counts, adds);
     Ok(Sizes { items, rows })
 }
 
@@ -104,15 +93,14 @@ fn apply_zeroed(
         lost,
         gone,
     );
+    let counts = RowCounts { gained, lost, gone };
     apply_counted(
         target,
         list,
         table,
         parts.edits,
         parts.adds,
-        gained,
-        lost,
-        gone,
+        counts,
         missing,
     )
 }

@@ -15,6 +15,14 @@ ghost use Rattle.apply_counts.specs.Counts.{Tallied, AllTallied, Marked, AllMark
 use records::refusal::Refusal;
 use records::sum_fits;
 
+// What was counted by row: what each gains and loses, and which go.
+#[derive(Clone, Copy)]
+pub struct RowCounts<'a> {
+    pub gained: &'a [u64],
+    pub lost: &'a [u64],
+    pub gone: &'a [u8],
+}
+
 // The count of the row that starts at `start`, one higher; 14 without a row.
 fn tally_line(table: &[u64], start: u64, counts: &mut [u64]) -> Result<(), Refusal>
     requires { (table_kept (rows table.now) ≡ true) × (length (rows table.now) ≤ length counts.old) × ((y : ℕ) → y < length (rows table.now) → get_or counts.old y 0 + 1 < 2 ^ 64) }
@@ -113,13 +121,13 @@ pub fn net(references: u64, gained: u64, lost: u64) -> u64
 }
 
 // Refusal 3: a net count that leaves 64 bits.
-pub fn nets_refusal(table: &[u64], gained: &[u64], lost: &[u64]) -> Result<(), Refusal>
-    requires { (length (rows table.now) ≤ length gained.now) × (length (rows table.now) ≤ length lost.now) }
-    ensures { why result ≡ unless (nets_from gained.now lost.now 0 (rows table.now)) 3 }
+pub fn nets_refusal(table: &[u64], counts: RowCounts) -> Result<(), Refusal>
+    requires { (length (rows table.now) ≤ length counts.gained.now) × (length (rows table.now) ≤ length counts.lost.now) }
+    ensures { why result ≡ unless (nets_from counts.entry.gained.now counts.entry.lost.now 0 (rows table.now)) 3 }
 {
     for k in 0..table.len() / 5 {
         let row = table::row_at(table, k);
-        if !net_fits(row.references, gained[k], lost[k]) {
+        if !net_fits(row.references, counts.gained[k], counts.lost[k]) {
             return Err(Refusal::Table);
         }
     }

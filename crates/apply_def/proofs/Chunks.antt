@@ -4,6 +4,8 @@ use mathlib.Core.Path.{ap₂}
 use Rattle.std.proofs.lemmas.List.{get_or-take, get_or-drop}
 use native.Mathlib.Nat.{suc-mul, zero-mul, zero-add}
 use Rattle.std.specs.Simd.{first_chunks}
+use lib.ListN.{get_or-map}
+use Rattle.records.proofs.Loops.{records-at}
 use Rattle.std.specs.List.{list_all}
 use Rattle.records.specs.Records.{chunks, records}
 use Rattle.records.specs.Stages.{every}
@@ -31,3 +33,10 @@ pub all_read : {A : Type 0} (f : List ℕ → A) (q : A → Bool) (l : List (Lis
 unfolding every
 all_read f q [] = refl
 all_read f q (c ∷ l) = ap (λ (b : Bool). q (f c) && b) (all_read f q l)
+
+-- record k, read from chunk k
+pub chunk_read : {A : Type 0} (f : List ℕ → A) (w : ℕ) → ((s : List ℕ) → f (take w s) ≡ f s) → (s : List ℕ) (k : ℕ) (d : List ℕ) → k < length s / w → f (get_or (first_chunks w (length s / w) s) k d) ≡ f (drop (k * w) s)
+chunk_read f w h s k d l =
+    sym (get_or-map f (first_chunks w (length s / w) s) k d)
+    ∙ ap (λ a. get_or a k (f d)) (records_read f w h s)
+    ∙ records-at f w s k (f d) l

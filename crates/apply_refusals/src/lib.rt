@@ -14,6 +14,7 @@ ghost use Rattle.apply_walk.specs.Merge.{Rising};
 ghost use Rattle.apply_refusals.specs.Parts.{lent};
 ghost use Rattle.apply_refusals.specs.Stages.{ones, others, result_refusal, Stands};
 
+use apply_counts::RowCounts;
 use records::refusal::{Refusal, check};
 
 // A plan's five parts, as an operation's outputs hold them.
@@ -91,23 +92,21 @@ pub fn result_refusal(
     space: usize,
     edits: &[u8],
     adds: &[u64],
-    gained: &[u64],
-    lost: &[u64],
-    gone: &[u8],
+    counts: RowCounts,
     missing: Result<(), Refusal>,
 ) -> Result<(), Refusal>
     requires { Rising list.now edits.now × (0 < sector) × (table_kept (rows table.now) ≡ true)
-        × (length (rows table.now) ≤ length gained.now) × (length (rows table.now) ≤ length lost.now) × (length (rows table.now) ≤ length gone.now) }
-    ensures { (generation : ℕ) (p : Plan) → Stands edits.now adds.now (rows table.now) gained.now lost.now gone.now (why missing) p
+        × (length (rows table.now) ≤ length counts.gained.now) × (length (rows table.now) ≤ length counts.lost.now) × (length (rows table.now) ≤ length counts.gone.now) }
+    ensures { (generation : ℕ) (p : Plan) → Stands edits.now adds.now (rows table.now) counts.entry.gained.now counts.entry.lost.now counts.entry.gone.now (why missing) p
         → why result ≡ result_refusal sector number generation room space (items list.now) (rows table.now) p }
 {
     let count = table.len() / table::WIDTH;
     let n = apply_walk::result_length(list, edits);
-    let m = apply_counts::count_zeros(&gone[..count]) + adds.len() / 3;
+    let m = apply_counts::count_zeros(&counts.gone[..count]) + adds.len() / 3;
     check(n <= 65536 && m <= 65536, Refusal::Broken)?;
     missing?;
-    apply_counts::nets_refusal(table, gained, lost)?;
+    apply_counts::nets_refusal(table, counts)?;
     apply_walk::result_refusal(number, sector, list, edits)?;
-    apply_clear::adds_refusal(table, gone, adds)?;
+    apply_clear::adds_refusal(table, counts.gone, adds)?;
     check(n <= room && m <= space, Refusal::Room)
 }

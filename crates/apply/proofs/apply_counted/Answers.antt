@@ -42,21 +42,21 @@ pub returns-in_err-result_refusal : goal.returns-in_err-result_refusal
 returns-in_err-result_refusal c = let t = c.args in
     let e = c.in_err-result_refusal.field-0.0 in
     let r : c.from_residual.result ≡ Err e = search rules in
-    λ p s. rw r (result_refused t.target.number t.target.sector t.target.generation t.target.items t.target.rows t.list.now t.table.now t.edits.now t.adds.now t.gained.now t.lost.now t.gone.now (why t.missing) c.requires.0 p s _ (c.in_err-result_refusal.ensures t.target.generation p s) e refl)
+    λ p s. rw r (result_refused t.target.number t.target.sector t.target.generation t.target.items t.target.rows t.list.now t.table.now t.edits.now t.adds.now t.counts.gained.now t.counts.lost.now t.counts.gone.now (why t.missing) c.requires.0 p s _ (c.in_err-result_refusal.ensures t.target.generation p s) e refl)
 
 pub items_after-items-requires : goal.items_after-items-requires
 items_after-items-requires c = let t = c.args in
     let p = c.requires.4.0 in
     let s = c.requires.4.1 in
-    (c.requires.0.listed, lent_rising t.target.number t.target.sector t.target.items t.target.rows t.list.now t.table.now t.edits.now c.requires.0, (result_fits t.target.number t.target.sector t.target.generation t.target.items t.target.rows t.list.now t.table.now t.edits.now t.adds.now t.gained.now t.lost.now t.gone.now (why t.missing) c.requires.0 p s _ (c.in_ok-result_refusal.ensures t.target.generation p s) refl).0)
+    (c.requires.0.listed, lent_rising t.target.number t.target.sector t.target.items t.target.rows t.list.now t.table.now t.edits.now c.requires.0, (result_fits t.target.number t.target.sector t.target.generation t.target.items t.target.rows t.list.now t.table.now t.edits.now t.adds.now t.counts.gained.now t.counts.lost.now t.counts.gone.now (why t.missing) c.requires.0 p s _ (c.in_ok-result_refusal.ensures t.target.generation p s) refl).0)
 
 pub rows_after-rows-requires : goal.rows_after-rows-requires
 rows_after-rows-requires c = let t = c.args in
     let p = c.requires.4.0 in
     let s = c.requires.4.1 in
-    let f = result_fits t.target.number t.target.sector t.target.generation t.target.items t.target.rows t.list.now t.table.now t.edits.now t.adds.now t.gained.now t.lost.now t.gone.now (why t.missing) c.requires.0 p s _ (c.in_ok-result_refusal.ensures t.target.generation p s) refl in
+    let f = result_fits t.target.number t.target.sector t.target.generation t.target.items t.target.rows t.list.now t.table.now t.edits.now t.adds.now t.counts.gained.now t.counts.lost.now t.counts.gone.now (why t.missing) c.requires.0 p s _ (c.in_ok-result_refusal.ensures t.target.generation p s) refl in
     (c.requires.0.tabled, c.requires.1, c.requires.2, c.requires.3, f.1, f.2, f.3)
 
 pub returns : goal.returns
 returns c = let t = c.args in
-    λ p s. result_done t.target.number t.target.sector t.target.generation t.target.items t.target.rows t.list.now t.table.now t.edits.now t.adds.now t.gained.now t.lost.now t.gone.now (why t.missing) c.requires.0 p s _ (c.in_ok-result_refusal.ensures t.target.generation p s) refl _ _ _ _ c.items_after-items.ensures.0 c.items_after-items.ensures.1 c.rows_after-rows.ensures.0 c.rows_after-rows.ensures.1
+    λ p s. result_done t.target.number t.target.sector t.target.generation t.target.items t.target.rows t.list.now t.table.now t.edits.now t.adds.now t.counts.gained.now t.counts.lost.now t.counts.gone.now (why t.missing) c.requires.0 p s _ (c.in_ok-result_refusal.ensures t.target.generation p s) refl _ _ _ _ c.items_after-items.ensures.0 c.items_after-items.ensures.1 c.rows_after-rows.ensures.0 c.rows_after-rows.ensures.1
