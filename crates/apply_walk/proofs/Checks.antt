@@ -1,7 +1,7 @@
 -- The checks of edits and of the result in one pass equal the definitions. Assumes nothing.
 use mathlib.Core.Path.{◌≡◌, refl, ap, ap₂, ◌∙◌, sym}
 use mathlib.Core.Bool.{Bool, true, false, ◌&&◌, ◌||◌, not}
-use mathlib.Core.List.{List, [], ◌∷◌, map, flat_map}
+use mathlib.Core.List.{List, [], ◌∷◌, ◌++◌, map, flat_map}
 use Prim.Native.Nat.{ℕ, suc, ◌+◌, ◌-◌, ◌*◌, ◌/◌, ◌≤◌, ◌<◌}
 use native.Mathlib.Omega.{arith}
 use native.Mathlib.Decide.{dec_lt}
@@ -24,7 +24,7 @@ use Rattle.lists.specs.Lists.{item_sound, list_kept, whole_sectors}
 use Rattle.lists.specs.Raw.{begin, follows, next}
 use Rattle.lists.proofs.Order.{pass_all}
 use Rattle.records.specs.Select.{keep}
-use Rattle.cut_def.specs.Pieces.{Piece, kept, insert_all}
+use Rattle.cut_def.specs.Pieces.{items_of, Piece, kept, insert_all}
 use Rattle.cut_def.specs.Edits.{Edit, put, delete, key_of, put_of, edited, items_after}
 use Rattle.cut_def.proofs.Inserts.{insert_all-length}
 use Rattle.records.proofs.Picks.{keep_two}
@@ -35,8 +35,13 @@ use Rattle.apply_def.specs.Apply.{edits_rise}
 use Rattle.plan_def.specs.ReadBack.{edit_in, edits_in}
 use Rattle.records.specs.declared.refusal.Refusal.{Refusal}
 use Rattle.records.specs.Refusals.{number as refusal_number}
-use Rattle.apply_def.proofs.Whys.{given}
-use Rattle.apply_walk.specs.Merge.{left}
+use Rattle.apply_def.proofs.Whys.{given as refused}
+use denote.Bor.{now}
+use Rattle.std.specs.Prelude.{Option}
+use Rattle.item.specs.declared.Item.{Item}
+use Rattle.apply_walk.specs.declared.walk.Walk.{Walk}
+use Rattle.apply_walk.specs.Walks.{ahead}
+use Rattle.apply_walk.specs.Merge.{left, given, Walked}
 use Rattle.apply_walk.specs.Checks.{items_now, result_turn, result_sound}
 use Rattle.apply_walk.proofs.Merge.{key_read}
 
@@ -121,6 +126,13 @@ after_nil = refl
 pub walk_done : (list edits : List ℕ) (i j : ℕ) → length list / 70 ≤ i → length edits / 71 ≤ j → left list edits i j ≡ []
 walk_done list edits i j hi hj = ap₂ items_after (from_nil list i hi) (records_nil edit_in 71 edits j hj) ∙ after_nil
 
+-- what a walk has ahead, and has behind a step
+pub walked_ahead : (w v : Walk) (g : Option Item) (m n : ℕ) → Walked w.list.now w.edits.now w.i w.j g m n → v.list ≡ w.list → v.edits ≡ w.edits → v.i ≡ m → v.j ≡ n → ahead w ≡ given g ++ ahead v
+walked_ahead w v g m n h a b p q =
+    h.first
+    ∙ ap₂ (λ i j. given g ++ items_of (left w.list.now w.edits.now i j)) (sym p) (sym q)
+    ∙ ap₂ (λ l e. given g ++ items_of (left l e v.i v.j)) (ap now (sym a)) (ap now (sym b))
+
 -- at most as many records as old ones and edits
 pub few_ahead : (list edits : List ℕ) → length (items_now list edits) ≤ length list / 70 + length edits / 71
 unfolding items_after flat_map
@@ -151,7 +163,7 @@ module _ (number sector : ℕ) where
     result_turn_lem b q t = ap (λ (c : Last). result_sieve c gs) q ∙ sym (result_cons ∙ first_go (result_turn number sector a f) _ (sym t))
 
     pub result_stop : (r : Refusal) → refusal_number r ≡ result_turn number sector a f → refusal_number r ≡ result_sieve a fs
-    result_stop r t = sym (result_cons ∙ ap (λ (n : ℕ). first n (result_sieve (next a f) gs)) (sym t) ∙ given r _)
+    result_stop r t = sym (result_cons ∙ ap (λ (n : ℕ). first n (result_sieve (next a f) gs)) (sym t) ∙ refused r _)
 
   pub result_done : (a : Last) (fs : List Fields) → fs ≡ [] → 0 ≡ result_sieve a fs
   unfolding sieve

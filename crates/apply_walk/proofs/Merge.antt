@@ -99,14 +99,14 @@ module _ (list edits : List ℕ) (rise : Rising list edits) (i j : ℕ) (hi : i 
   news : pairs edits_rise (drop j (edits_in edits)) ≡ true
   news = pairs-drop edits_rise j (edits_in edits) rise.news
 
-  pub walked_last : (r : Item) → length edits / 71 ≤ j → i < length list / 70 → r ≡ item_of (drop (i * 70) list) → Walked list edits i j (record { given = Some r; i = i + 1; j = j })
+  pub walked_last : (r : Item) → length edits / 71 ≤ j → i < length list / 70 → r ≡ item_of (drop (i * 70) list) → Walked list edits i j (Some r) (i + 1) (j)
   walked_last r l h e =
       let f : fields r ≡ decode (drop (i * 70) list) = item-decode r _ e in
       record {
         first = ap items_of (ap₂ items_after (from_cons list i h) n ∙ old_last _ _ ∙ ap₂ (λ (g : Fields) (es : List Edit). kept g ∷ items_after (from list (i + 1)) es) (sym f) (sym n));
         on = omega arith;
-        i = omega arith;
-        j = hj;
+        olds = omega arith;
+        news = hj;
       }
     where
       n : drop j (edits_in edits) ≡ []
@@ -127,7 +127,7 @@ module _ (list edits : List ℕ) (rise : Rising list edits) (i j : ℕ) (hi : i 
     rise-from = rw first-edit at news
 
     -- an old record before it
-    pub walked_old : (b : Bool) (o : Item) → b ≡ gone (Some r.key) (from list i) → b ≡ true → o ≡ item_of (drop (i * 70) list) → Walked list edits i j (record { given = Some o; i = i + 1; j = j })
+    pub walked_old : (b : Bool) (o : Item) → b ≡ gone (Some r.key) (from list i) → b ≡ true → o ≡ item_of (drop (i * 70) list) → Walked list edits i j (Some o) (i + 1) (j)
     walked_old b o q t x =
         let l = gone-there (Some r.key) list i (sym q ∙ t) in
         let f : fields o ≡ decode (drop (i * 70) list) = item-decode o _ x in
@@ -135,8 +135,8 @@ module _ (list edits : List ℕ) (rise : Rising list edits) (i j : ℕ) (hi : i 
         record {
           first = ap items_of (ap₂ items_after (from_cons list i l) first-edit ∙ old-first _ _ edit _ rise-from g ∙ ap₂ (λ (g : Fields) (es : List Edit). kept g ∷ items_after (from list (i + 1)) es) (sym f) (sym first-edit));
           on = omega arith;
-          i = omega arith;
-          j = hj;
+          olds = omega arith;
+          news = hj;
         }
 
     -- the edit first: n is what is left of the list behind its key
@@ -147,22 +147,22 @@ module _ (list edits : List ℕ) (rise : Rising list edits) (i j : ℕ) (hi : i 
           ∙ edit-first (from list i) edit (drop (j + 1) (edits_in edits)) olds rise-from (rw key (sym q ∙ t))
           ∙ ap (λ (fs : List Fields). map built (put_of edit) ++ items_after fs (drop (j + 1) (edits_in edits))) (rw key (sym p.0))
 
-      pub walked_put : (c : Bool) → c ≡ eqb (get_or (drop (j * 71) edits) 0 0) 1 → c ≡ true → Walked list edits i j (record { given = Some r; i = n; j = j + 1 })
+      pub walked_put : (c : Bool) → c ≡ eqb (get_or (drop (j * 71) edits) 0 0) 1 → c ≡ true → Walked list edits i j (Some r) (n) (j + 1)
       walked_put c x y =
           let d : edit ≡ put (fields r) = put_read (drop (j * 71) edits) (sym x ∙ y) ∙ ap put (sym e) in
           record {
             first = ap items_of (edit-step ∙ ap (λ (k : Edit). map built (put_of k) ++ left list edits n (j + 1)) d);
             on = omega (arith, p.1);
-            i = p.2;
-            j = omega arith;
+            olds = p.2;
+            news = omega arith;
           }
 
-      pub walked_delete : (c : Bool) → c ≡ eqb (get_or (drop (j * 71) edits) 0 0) 1 → c ≡ false → Walked list edits i j (record { given = None; i = n; j = j + 1 })
+      pub walked_delete : (c : Bool) → c ≡ eqb (get_or (drop (j * 71) edits) 0 0) 1 → c ≡ false → Walked list edits i j (None) (n) (j + 1)
       walked_delete c x y =
           let d : edit ≡ delete (decode (drop 1 (drop (j * 71) edits))).key = delete_read (drop (j * 71) edits) (sym x ∙ y) in
           record {
             first = ap items_of (edit-step ∙ ap (λ (k : Edit). map built (put_of k) ++ left list edits n (j + 1)) d);
             on = omega (arith, p.1);
-            i = p.2;
-            j = omega arith;
+            olds = p.2;
+            news = omega arith;
           }

@@ -9,7 +9,6 @@ use Rattle.cut_def.specs.Pieces.{Piece, items_of}
 use Rattle.cut_def.specs.Edits.{items_after}
 use Rattle.apply_def.specs.Apply.{edits_rise}
 use Rattle.plan_def.specs.ReadBack.{edits_in}
-use Rattle.apply_walk.specs.declared.walk.Step.{Step}
 
 -- both rise by key
 pub record Rising (list edits : List ℕ) : Type 0 where
@@ -25,9 +24,9 @@ abbrev pub given : Option Item → List Fields
 given (Some item) = fields item ∷ []
 given None = []
 
--- a step takes the first record of what is left, or passes a delete, and goes on
-pub record Walked (list edits : List ℕ) (i₀ j₀ : ℕ) (r : Step) : Type 0 where
-  pub first : items_of (left list edits i₀ j₀) ≡ given r.given ++ items_of (left list edits r.i r.j)
-  pub on : i₀ + j₀ < r.i + r.j
-  pub i : r.i ≤ length list / 70
-  pub j : r.j ≤ length edits / 71
+-- a step takes the first record of what is left, or passes a delete, and goes on at old record m and edit n
+pub record Walked (list edits : List ℕ) (i j : ℕ) (g : Option Item) (m n : ℕ) : Type 0 where
+  pub first : items_of (left list edits i j) ≡ given g ++ items_of (left list edits m n)
+  pub on : i + j < m + n
+  pub olds : m ≤ length list / 70
+  pub news : n ≤ length edits / 71

@@ -1,56 +1,15 @@
 // The list after a plan's edits, walked record by record with nothing stored: `for item in walk_result(list, edits)`.
 
-ghost use Rattle.std.specs.Prelude.{◌≡◌, true, ◌+◌, ◌*◌, ◌/◌, ◌≤◌, ◌<◌, length};
+ghost use Rattle.std.specs.Prelude.{◌≡◌, true, ◌+◌, ◌*◌, ◌/◌, ◌≤◌, ◌<◌, length, drop};
 ghost use Rattle.std.specs.Iterator.{YieldsFirstBy, item_count};
 ghost use Rattle.records.specs.Stages.{pairs};
-ghost use Rattle.item.specs.Items.{fields, items};
+ghost use Rattle.item.specs.Items.{fields, item_of, items};
 ghost use Rattle.lists.specs.Lists.{rises};
 ghost use Rattle.apply_def.specs.Apply.{edits_rise};
 ghost use Rattle.plan_def.specs.ReadBack.{edits_in};
-ghost use Rattle.apply_walk.specs.Merge.{Rising, Walked};
+ghost use Rattle.apply_walk.specs.Merge.{Rising};
 
 use item::Item;
-
-// What a step gives, nothing for a delete, and where the next one goes on: at old record i and edit j.
-#[derive(Clone, Copy)]
-struct Step {
-    given: Option<Item>,
-    i: usize,
-    j: usize,
-}
-
-// A step from old record i and edit j on: the one with the lower key. An edit passes the old record of its key.
-fn take_step(list: &[u8], edits: &[u8], i: usize, j: usize) -> Step
-    requires { Rising list.now edits.now × (i ≤ length list.now / 70) × (j ≤ length edits.now / 71) × (i + j < length list.now / 70 + length edits.now / 71) }
-    ensures { Walked list.now edits.now i j result }
-{
-    if j >= edits.len() / item::EDIT {
-        return Step {
-            given: Some(item::item_at(list, i)),
-            i: i + 1,
-            j,
-        };
-    }
-    let item = plan_lines::edit_item(edits, j);
-    if edit_merge::is_gone(list, i, Some(item.key)) {
-        return Step {
-            given: Some(item::item_at(list, i)),
-            i: i + 1,
-            j,
-        };
-    }
-    let next = edit_merge::passed(list, i, item.key);
-    let given = if plan_lines::is_put(edits, j) {
-        Some(item)
-    } else {
-        None
-    };
-    Step {
-        given,
-        i: next,
-        j: j + 1,
-    }
-}
 
 // A walk at old record i and edit j; the old list and the edits rise by key.
 #[derive(Clone, Copy)]
@@ -73,6 +32,16 @@ impl<'a> Walk<'a> {
     {
         Walk { list, edits, i, j }
     }
+
+    // Old record i, passed.
+    fn take_old(&mut self) -> Item
+        requires { self.old.i < length self.old.list.now / 70 }
+        ensures { (result ≡ item_of (drop (self.old.i * 70) self.old.list.now)) × (self.new.list ≡ self.old.list) × (self.new.edits ≡ self.old.edits) × (self.new.i ≡ self.old.i + 1) × (self.new.j ≡ self.old.j) }
+    {
+        let item = item::item_at(self.list, self.i);
+        *self = Walk::at(self.list, self.edits, self.i + 1, self.j);
+        item
+    }
 }
 
 impl<'a> Iterator for Walk<'a> {
@@ -84,14 +53,24 @@ impl<'a> Iterator for Walk<'a> {
 
     ghost remaining = { item_count ahead };
 
+    // The record with the lower key, of old record i and edit j: an edit passes the old record of its key, and a delete gives
+    // none.
     fn next(&mut self) -> Option<Item> {
-        while self.i < self.list.len() / item::RECORD || self.j < self.edits.len() / item::EDIT {
-            let step = take_step(self.list, self.edits, self.i, self.j);
-            *self = Walk::at(self.list, self.edits, step.i, step.j);
-            if step.given.is_some() {
-                return step.given;
+        while self.j < self.edits.len() / item::EDIT {
+            let edit = plan_lines::edit_item(self.edits, self.j);
+            if edit_merge::is_gone(self.list, self.i, Some(edit.key)) {
+                return Some(self.take_old());
+            }
+            let put = plan_lines::is_put(self.edits, self.j);
+            let next = edit_merge::passed(self.list, self.i, edit.key);
+            *self = Walk::at(self.list, self.edits, next, self.j + 1);
+            if put {
+                return Some(edit);
             }
         }
-        None
+        if self.i >= self.list.len() / item::RECORD {
+            return None;
+        }
+        Some(self.take_old())
     }
 }

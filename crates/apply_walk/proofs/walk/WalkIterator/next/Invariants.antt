@@ -1,4 +1,4 @@
-use Rattle.std.proofs.Common.{◌≡◌, ◌+◌, ◌/◌, length, ◌-◌}
+use Rattle.std.proofs.Common.{◌≡◌, ◌/◌, length, ◌-◌}
 use Rattle.apply_walk.specs.Walks.{ahead}
 use Rattle.apply_walk.proofs.walk.WalkIterator.next.Given as goal
 
@@ -6,4 +6,4 @@ abbrev pub invariant-loop-self : goal.invariant-loop-self
 invariant-loop-self l = ahead l.self ≡ ahead l.initial.self
 
 abbrev pub decreases-loop-self : goal.decreases-loop-self
-decreases-loop-self l = length l.self.list.now / 70 + length l.self.edits.now / 71 - (l.self.i + l.self.j)
+decreases-loop-self l = length l.self.edits.now / 71 - l.self.j
