@@ -71,7 +71,7 @@ pub fn shares_refusal(v: Volume, c: RangeChange, p: Parts, list: &[u8], table: &
     let s = change_segment::joined_segment(v, c, p, list, &mut seg);
     let n = change_lines::put_more(k, list, &seg, s, &mut lines, 0);
     let end = n * 2;
-    ref_compare::lines_refusal(&lines[0..end], table)
+    records::refusal::number_of(ref_compare::lines_refusal(&lines[0..end], table))
 }
 
 // All, in the order of the definition.
