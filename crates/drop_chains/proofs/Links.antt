@@ -24,7 +24,7 @@ use Rattle.ref_def.specs.Drops.{InLeaf, in_leaves, drops_of, lines, released, re
 use Rattle.ref_def.proofs.Drops.{leaves-length}
 use Rattle.plan_lines.specs.Lines.{Laid}
 use Rattle.plan_lines.proofs.Laws.{Going, going_first, going_done}
-use Rattle.drop_chains.specs.declared.RowRange.{RowRange}
+use Rattle.std.specs.declared.ops.Range.{Range}
 use Rattle.drop_chains.specs.Chains.{leader, Chain, freed, line_in, chain_lines}
 use Rattle.drop_chains.specs.Links.{drops_by, drop_at, wider, Blank, Linked}
 use Rattle.drop_chains.proofs.Walks.{lead_yes, lead_no, lead_nil, lead_none, chain_empty}
@@ -62,7 +62,7 @@ never : (b : Bool) → b ≡ false → b ≡ true → ⊥
 never b p q = let z : ◌≡◌ {A = ℕ} 0 1 = cc in omega arith
 
 module _
-    (dropped : Fields → Bool) (rs : List Row) (ds : List InLeaf) (i : ℕ) (heads nexts : List ℕ) (s : RowRange)
+    (dropped : Fields → Bool) (rs : List Row) (ds : List InLeaf) (i : ℕ) (heads nexts : List ℕ) (s : Range ℕ)
     (done : Linked dropped rs ds (i + 1) heads nexts s) (h : i < length ds) (d : InLeaf) (e : (x : InLeaf) → get_or ds i x ≡ d) where
   next_here : drop i ds ≡ d ∷ drop (i + 1) ds
   next_here = drop-cons ds i d h ∙ rw (e d, add-one) refl
@@ -130,7 +130,7 @@ module _
         next-at k x j y a (no b) l u =
             absurd (never (drop_at dropped (get_or rs k x).start d) (of_other dropped rs kept d start p r row f k x l b) (sym (ap (drop_at dropped (get_or rs k x).start) (ap (λ (n : ℕ). get_or ds n y) a ∙ e y)) ∙ u))
 
-    pub linked_put : (s' : RowRange) → s' ≡ wider s r → Linked dropped rs ds i (set heads r (i + 1)) (set nexts i (get_or heads r 0)) s'
+    pub linked_put : (s' : Range ℕ) → s' ≡ wider s r → Linked dropped rs ds i (set heads r (i + 1)) (set nexts i (get_or heads r 0)) s'
     linked_put s' u = rw u linked_wide
 
 -- ---- before the first item is put in
@@ -147,7 +147,7 @@ blank n t list shared l h r f =
       none = λ k m. get_or-replicate {A = ℕ} n k 0 0 (omega (arith, rows-length t));
     }
 
-pub linked_first : (dropped : Fields → Bool) (t : List ℕ) (ds : List InLeaf) (heads nexts : List ℕ) (i : ℕ) → Blank (rows t) ds heads nexts → length ds ≤ i → Linked dropped (rows t) ds i heads nexts (record { from = length t / 5; to = 0 })
+pub linked_first : (dropped : Fields → Bool) (t : List ℕ) (ds : List InLeaf) (heads nexts : List ℕ) (i : ℕ) → Blank (rows t) ds heads nexts → length ds ≤ i → Linked dropped (rows t) ds i heads nexts (record { start = length t / 5; end = 0 })
 linked_first dropped t ds heads nexts i b h =
     record {
       few = b.few;
@@ -161,12 +161,12 @@ linked_first dropped t ds heads nexts i b h =
       behind = λ k m l. b.none k l;
     }
 
-pub linked_same : (dropped : Fields → Bool) (rs : List Row) (ds : List InLeaf) (i j : ℕ) (heads nexts : List ℕ) (s : RowRange) → i ≡ j → Linked dropped rs ds i heads nexts s → Linked dropped rs ds j heads nexts s
+pub linked_same : (dropped : Fields → Bool) (rs : List Row) (ds : List InLeaf) (i j : ℕ) (heads nexts : List ℕ) (s : Range ℕ) → i ≡ j → Linked dropped rs ds i heads nexts s → Linked dropped rs ds j heads nexts s
 linked_same dropped rs ds i j heads nexts s e l = rw (← e) l
 
 -- ---- the chain of each row
 
-module _ (dropped : Fields → Bool) (t : List ℕ) (ds : List InLeaf) (heads nexts : List ℕ) (s : RowRange) (done : Linked dropped (rows t) ds 0 heads nexts s) where
+module _ (dropped : Fields → Bool) (t : List ℕ) (ds : List InLeaf) (heads nexts : List ℕ) (s : Range ℕ) (done : Linked dropped (rows t) ds 0 heads nexts s) where
   pub chain_of : (k : ℕ) (row : Row) (head : ℕ) → k < length t / 5 → row ≡ row_of (drop (k * 5) t) → head ≡ get_or heads k 0 → Chain (drop_at dropped row.start) ds nexts head
   chain_of k row head h e z =
       let l : k < length (rows t) = omega (arith, rows-length t) in
@@ -227,7 +227,7 @@ module _ (dropped : Fields → Bool) (hs : List InLeaf) where
   rows_chained true rs = flat_same _ (row_chain dropped true hs) release_row rs
   rows_chained false rs = flat_same _ (row_chain dropped false hs) unref_row rs
 
-module _ (dropped : Fields → Bool) (release : Bool) (t : List ℕ) (hs : List InLeaf) (heads nexts : List ℕ) (s : RowRange) (done : Linked dropped (rows t) hs 0 heads nexts s) where
+module _ (dropped : Fields → Bool) (release : Bool) (t : List ℕ) (hs : List InLeaf) (heads nexts : List ℕ) (s : Range ℕ) (done : Linked dropped (rows t) hs 0 heads nexts s) where
   no_lines : (k : ℕ) → k < length t / 5 → get_or heads k 0 ≡ 0 → row_chain dropped release hs (row_of (drop (k * 5) t)) ≡ []
   no_lines k h z =
       let row = row_of (drop (k * 5) t) in
@@ -235,14 +235,14 @@ module _ (dropped : Fields → Bool) (release : Bool) (t : List ℕ) (hs : List 
       chain_empty release row.references _ (lead_none (drop_at dropped row.start) hs 0 (sym first ∙ z))
 
   -- a loop over the range's rows, as it starts and as it ends
-  pub span-first : (f : Ref → List ℕ) (v n : ℕ) (out : List ℕ) (k : ℕ) → s.from ≡ k → Going f v n (flat_map (row_chain dropped release hs) (rows t)) out n (flat_map (row_chain dropped release hs) (rest row_of 5 t (length t / 5) k)) out
+  pub span-first : (f : Ref → List ℕ) (v n : ℕ) (out : List ℕ) (k : ℕ) → s.start ≡ k → Going f v n (flat_map (row_chain dropped release hs) (rows t)) out n (flat_map (row_chain dropped release hs) (rest row_of 5 t (length t / 5) k)) out
   span-first f v n out k q =
       let g = row_chain dropped release hs in
-      let e : flat_map g (rows t) ≡ flat_map g (rest row_of 5 t (length t / 5) s.from) =
-      ap (flat_map g) (sym (rows-rest t)) ∙ rows_skip g t (length t / 5) s.from (omega (arith, done.low, rows-length t)) (λ j m. no_lines j (omega (arith, done.low, rows-length t)) (done.before j m)) in
+      let e : flat_map g (rows t) ≡ flat_map g (rest row_of 5 t (length t / 5) s.start) =
+      ap (flat_map g) (sym (rows-rest t)) ∙ rows_skip g t (length t / 5) s.start (omega (arith, done.low, rows-length t)) (λ j m. no_lines j (omega (arith, done.low, rows-length t)) (done.before j m)) in
       rw (← q, ← e) (going_first f v n (flat_map g (rows t)) out)
 
-  pub span-done : (f : Ref → List ℕ) (v n₀ : ℕ) (all : List Ref) (out₀ : List ℕ) (n : ℕ) (out : List ℕ) (k : ℕ) → s.to ≤ k → Going f v n₀ all out₀ n (flat_map (row_chain dropped release hs) (rest row_of 5 t (length t / 5) k)) out → Laid f v n₀ all out₀ n out
+  pub span-done : (f : Ref → List ℕ) (v n₀ : ℕ) (all : List Ref) (out₀ : List ℕ) (n : ℕ) (out : List ℕ) (k : ℕ) → s.end ≤ k → Going f v n₀ all out₀ n (flat_map (row_chain dropped release hs) (rest row_of 5 t (length t / 5) k)) out → Laid f v n₀ all out₀ n out
   span-done f v n₀ all out₀ n out k h going =
       let g = row_chain dropped release hs in
       let e : flat_map g (rest row_of 5 t (length t / 5) k) ≡ [] = rows_empty g t (length t / 5) (length t / 5) k (omega arith) (λ j p q. no_lines j q (done.behind j (omega arith) (omega (arith, rows-length t)))) in

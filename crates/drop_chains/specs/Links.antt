@@ -4,7 +4,7 @@ use Rattle.records.specs.Select.{keep}
 use Rattle.item.specs.Items.{Fields}
 use Rattle.table.specs.declared.Row.{Row}
 use Rattle.ref_def.specs.Drops.{InLeaf}
-use Rattle.drop_chains.specs.declared.RowRange.{RowRange}
+use Rattle.std.specs.declared.ops.Range.{Range}
 use Rattle.drop_chains.specs.Chains.{leader}
 
 -- the drops among a list's items, where `dropped` says which are, and those of the extent at `start`
@@ -15,8 +15,8 @@ abbrev pub drop_at : (Fields → Bool) → ℕ → InLeaf → Bool
 drop_at dropped start d = dropped d.item && eqb d.item.extent_start start
 
 -- a range of rows with row k in it
-abbrev pub wider : RowRange → ℕ → RowRange
-wider s k = record { from = min s.from k; to = max s.to (k + 1) }
+abbrev pub wider : Range ℕ → ℕ → Range ℕ
+wider s k = record { start = min s.start k; end = max s.end (k + 1) }
 
 -- arrays with room for a chain of each row, and no head
 pub record Blank (rs : List Row) (ds : List InLeaf) (heads nexts : List ℕ) : Type 0 where
@@ -26,7 +26,7 @@ pub record Blank (rs : List Row) (ds : List InLeaf) (heads nexts : List ℕ) : T
   pub none : (k : ℕ) → k < length rs → get_or heads k 0 ≡ 0
 
 -- the drops from index i on are chained by row, and rows outside the range have none
-pub record Linked (dropped : Fields → Bool) (rs : List Row) (ds : List InLeaf) (i : ℕ) (heads nexts : List ℕ) (s : RowRange) : Type 0 where
+pub record Linked (dropped : Fields → Bool) (rs : List Row) (ds : List InLeaf) (i : ℕ) (heads nexts : List ℕ) (s : Range ℕ) : Type 0 where
   pub few : length ds ≤ 65536
   pub row_room : length rs ≤ length heads
   pub room : length ds ≤ length nexts
@@ -34,7 +34,7 @@ pub record Linked (dropped : Fields → Bool) (rs : List Row) (ds : List InLeaf)
   pub goes :
       (k : ℕ) (e : Row) → k < length rs → (j : ℕ) (d : InLeaf) → i ≤ j → j < length ds → drop_at dropped (get_or rs k e).start (get_or ds j d) ≡ true
       → get_or nexts j 0 ≡ leader (drop_at dropped (get_or rs k e).start) (j + 1) (drop (j + 1) ds)
-  pub low : s.from ≤ length rs
-  pub high : s.to ≤ length rs
-  pub before : (k : ℕ) → k < s.from → get_or heads k 0 ≡ 0
-  pub behind : (k : ℕ) → s.to ≤ k → k < length rs → get_or heads k 0 ≡ 0
+  pub low : s.start ≤ length rs
+  pub high : s.end ≤ length rs
+  pub before : (k : ℕ) → k < s.start → get_or heads k 0 ≡ 0
+  pub behind : (k : ℕ) → s.end ≤ k → k < length rs → get_or heads k 0 ≡ 0

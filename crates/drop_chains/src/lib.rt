@@ -1,5 +1,6 @@
 // Drops chained by row, through arrays, in list order: whether those of a row free its extent, and a line for each. A number
-// in the arrays is an index and one more, and 0 ends a chain.
+// in the arrays is an index and one more, and 0 ends a chain: numbers of 32 bits in arrays that are lent, as there is no heap, and
+// as half the memory is half the time to zero it.
 #![tactic(auto)]
 
 ghost use Rattle.std.specs.Prelude.{◌≡◌, Bool, true, cond, not, [], ◌∷◌, map, ◌+◌, ◌*◌, ◌/◌, ◌<◌, ◌^◌, length, drop};
@@ -15,20 +16,13 @@ ghost use Rattle.drop_chains.specs.Chains.{Chain, freed, line_in, chain_lines};
 ghost use Rattle.drop_chains.specs.Links.{wider, drops_by, Linked};
 
 use item::Item;
-use records::both;
-
-// A number of the array.
-pub fn wide(x: u32) -> usize
-    ensures { result ≡ x }
-{
-    x as usize
-}
+use std::ops::Range;
 
 // Whether lines of the kind that is asked for are given.
 pub fn is_asked(release: bool, released: bool) -> bool
     ensures { result ≡ cond release released (not released) }
 {
-    if release { released } else { !released }
+    release == released
 }
 
 // Whether the drops of a chain free their extent. `at` is behind the last that was seen.
@@ -43,11 +37,11 @@ fn is_freed(references: u64, list: &[u8], shared: &[u8], nexts: &[u32], head: us
     let mut free = true;
     while h != 0 {
         drops += 1;
-        free = both(free, shared[h - 1] == 0);
+        free &= shared[h - 1] == 0;
         at = h;
-        h = wide(nexts[h - 1]);
+        h = nexts[h - 1] as usize;
     }
-    both(references == drops, free)
+    references == drops && free
 }
 
 // The line of a drop.
@@ -79,7 +73,7 @@ fn put_all(
     while h != 0 {
         m = put_drop(item::item_at(list, h - 1), out, m);
         at = h;
-        h = wide(nexts[h - 1]);
+        h = nexts[h - 1] as usize;
     }
     m
 }
@@ -111,22 +105,12 @@ pub fn put_chain(
 
 // ---- the chains of all rows
 
-// Rows from one number up to another; none where `to` is not past `from`.
-#[derive(Clone, Copy)]
-pub struct RowRange {
-    pub from: usize,
-    pub to: usize,
-}
-
-// A range with row k in it.
-fn widened(s: RowRange, k: usize) -> RowRange
+// A range of rows with row k in it.
+fn widened(s: Range<usize>, k: usize) -> Range<usize>
     requires { k + 1 < 2 ^ 64 }
     ensures { result ≡ wider s k }
 {
-    RowRange {
-        from: records::lower(s.from, k),
-        to: records::upper(s.to, k + 1),
-    }
+    s.start.min(k)..s.end.max(k + 1)
 }
 
 // Item i put before the chain of its row, if it is dropped and has a row.
@@ -138,8 +122,8 @@ pub fn link_item(
     i: usize,
     heads: &mut [u32],
     nexts: &mut [u32],
-    range: RowRange,
-) -> RowRange
+    range: Range<usize>,
+) -> Range<usize>
     requires table_value { table_kept (rows table.now) ≡ true }
     requires shared_len { (length shared.now ≡ length (items list.now)) × (i < length list.now / 70) }
     requires linked { (p : Fields → Bool) × Linked p (rows table.now) (in_leaves (items list.now) shared.now) (i + 1) heads.old nexts.old range }
@@ -166,7 +150,7 @@ pub fn put_rows(
     table: &[u64],
     heads: &[u32],
     nexts: &[u32],
-    range: RowRange,
+    range: Range<usize>,
     out: &mut [u64],
     n: usize,
 ) -> usize
@@ -177,11 +161,9 @@ pub fn put_rows(
         → Laid ref_numbers 2 n (cond release (releases (rows table.now) (drops_by p (in_leaves (items list.now) shared.now))) (unrefs (rows table.now) (drops_by p (in_leaves (items list.now) shared.now)))) out.old result out.new }
 {
     let mut at = n;
-    let from = range.from;
-    let to = range.to;
-    for k in from..to {
+    for k in range.start..range.end {
         let row = table::row_at(table, k);
-        let head = wide(heads[k]);
+        let head = heads[k] as usize;
         at = put_chain(release, row.references, list, shared, nexts, head, out, at);
     }
     at

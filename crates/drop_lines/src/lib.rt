@@ -15,7 +15,7 @@ ghost use Rattle.drop_lines.specs.Dropped.{taken, drops_in};
 ghost use Rattle.drop_lines.specs.Raw.{due, item_due, drop_of, line_of, row_lines};
 ghost use Rattle.drop_chains.specs.Links.{Blank, Linked};
 
-use drop_chains::RowRange;
+use std::ops::Range;
 use item::Item;
 use records::refusal::{Refusal, check};
 use table::Row;
@@ -196,16 +196,13 @@ fn link(
     table: &[u64],
     heads: &mut [u32],
     nexts: &mut [u32],
-) -> RowRange
+) -> Range<usize>
     requires table_value { table_kept (rows table.now) ≡ true }
     requires shared_len { length shared.now ≡ length (items list.now) }
     requires blank { Blank (rows table.now) (in_leaves (items list.now) shared.now) heads.old nexts.old }
     ensures { Linked (taken c) (rows table.now) (in_leaves (items list.now) shared.now) 0 heads.new nexts.new result }
 {
-    let mut span = RowRange {
-        from: table.len() / 5,
-        to: 0,
-    };
+    let mut span = table.len() / 5..0;
     for i in (0..list.len() / item::RECORD).rev() {
         let dropped = is_dropped(c, item::item_at(list, i));
         span = drop_chains::link_item(dropped, list, shared, table, i, heads, nexts, span);

@@ -1,5 +1,7 @@
 use Rattle.drop_chains.proofs.Walks.{walk_start, walk_stop, walk_moves, walk_bytes, walk_nexts, walk_goes, walk-tally, tally_first, tally_freed}
-use mathlib.Core.Path.{◌∙◌, refl}
+use mathlib.Core.Path.{◌∙◌, refl, ap, sym}
+use mathlib.Core.Bool.{Bool, ◌&&◌}
+use borrow.Author.Tests.{eq-eqb, ne_eqb}
 use native.Mathlib.Omega.{arith}
 use Rattle.drop_chains.proofs.is_freed.Goals as goal
 
@@ -40,12 +42,17 @@ loop-h-smaller c = let p = c.requires.chain.0 in
 pub loop-h-preserved : goal.loop-h-preserved
 loop-h-preserved c = λ p q.
     let i = c.loop-h.invariant p q in (
-      walk_goes p c.args.list.now c.args.shared.now c.args.nexts.now _ c.requires.shared_len q _ _ i.0 c.loop-h-test.true _ c.wide-h.ensures,
+      walk_goes p c.args.list.now c.args.shared.now c.args.nexts.now _ c.requires.shared_len q _ _ i.0 c.loop-h-test.true _ refl,
       omega (arith, i.1, walk_moves p c.args.list.now c.args.shared.now c.args.nexts.now _ c.requires.shared_len q _ _ i.0 c.loop-h-test.true),
-      walk-tally p c.args.list.now c.args.shared.now c.args.nexts.now _ c.requires.shared_len q _ _ i.0 c.loop-h-test.true _ _ _ c.both-free.ensures i.2,
+      walk-tally p c.args.list.now c.args.shared.now c.args.nexts.now _ c.requires.shared_len q _ _ i.0 c.loop-h-test.true _ _ _ refl i.2,
     )
 
-pub returns : goal.returns
-returns c = λ p q.
+pub returns-then-references-drops : goal.returns-then-references-drops
+returns-then-references-drops c = λ p q.
     let i = c.loop-h.invariant p q in
-    c.both.ensures ∙ tally_freed p _ _ _ _ _ (walk_stop p c.args.list.now c.args.shared.now c.args.nexts.now _ c.requires.shared_len q _ _ i.0 c.loop-h-test.false) i.2
+    sym (ap (λ (b : Bool). b && c.loop-h.free) (eq-eqb _ _ c.if-references-drops.true)) ∙ tally_freed p _ _ _ _ _ (walk_stop p c.args.list.now c.args.shared.now c.args.nexts.now _ c.requires.shared_len q _ _ i.0 c.loop-h-test.false) i.2
+
+pub returns-else-references-drops : goal.returns-else-references-drops
+returns-else-references-drops c = λ p q.
+    let i = c.loop-h.invariant p q in
+    ne_eqb _ _ c.if-references-drops.false ∙ sym (ap (λ (b : Bool). b && c.loop-h.free) (ne_eqb _ _ c.if-references-drops.false)) ∙ tally_freed p _ _ _ _ _ (walk_stop p c.args.list.now c.args.shared.now c.args.nexts.now _ c.requires.shared_len q _ _ i.0 c.loop-h-test.false) i.2

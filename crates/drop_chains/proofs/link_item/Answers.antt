@@ -23,11 +23,11 @@ returns-in_default c = λ p e l.
 
 pub offset_bounds-heads-k : goal.offset_bounds-heads-k
 offset_bounds-heads-k c = let d : InLeaf = record { item = decode (drop (c.args.i * 70) c.args.list.now); shared = get_or c.args.shared.now c.args.i 0 } in
-    omega (arith, found_in c.requires.linked.0 (rows c.args.table.now) c.requires.table_value d _ (c.extent_start.ensures ∙ ap (λ (f : Fields). f.extent_start) (item-decode _ _ c.item_at-item.ensures)) _ _ (sym c.in-At.is ∙ c.find_row.ensures), c.requires.linked.1.row_room, c.well_formed.1.1.1.1.1.0)
+    omega (arith, found_in c.requires.linked.0 (rows c.args.table.now) c.requires.table_value d _ (c.extent_start.ensures ∙ ap (λ (f : Fields). f.extent_start) (item-decode _ _ c.item_at-item.ensures)) _ _ (sym c.in-Some.is ∙ c.find_row.ensures), c.requires.linked.1.row_room, c.well_formed.1.1.1.1.1.0)
 
 pub bounds-heads-k : goal.bounds-heads-k
 bounds-heads-k c = let d : InLeaf = record { item = decode (drop (c.args.i * 70) c.args.list.now); shared = get_or c.args.shared.now c.args.i 0 } in
-    omega (arith, found_in c.requires.linked.0 (rows c.args.table.now) c.requires.table_value d _ (c.extent_start.ensures ∙ ap (λ (f : Fields). f.extent_start) (item-decode _ _ c.item_at-item.ensures)) _ _ (sym c.in-At.is ∙ c.find_row.ensures), c.requires.linked.1.row_room)
+    omega (arith, found_in c.requires.linked.0 (rows c.args.table.now) c.requires.table_value d _ (c.extent_start.ensures ∙ ap (λ (f : Fields). f.extent_start) (item-decode _ _ c.item_at-item.ensures)) _ _ (sym c.in-Some.is ∙ c.find_row.ensures), c.requires.linked.1.row_room)
 
 pub bounds-nexts-i : goal.bounds-nexts-i
 bounds-nexts-i c = let h : c.args.i < length (in_leaves (items c.args.list.now) c.args.shared.now) = (omega (arith, c.requires.shared_len.1, c.requires.shared_len.0, leaves-length (items c.args.list.now) c.args.shared.now c.requires.shared_len.0, items-length c.args.list.now)) in
@@ -39,17 +39,17 @@ overflow_cast-heads c = let h : c.args.i < length (in_leaves (items c.args.list.
 
 pub offset_bounds-heads-k-2 : goal.offset_bounds-heads-k-2
 offset_bounds-heads-k-2 c = let d : InLeaf = record { item = decode (drop (c.args.i * 70) c.args.list.now); shared = get_or c.args.shared.now c.args.i 0 } in
-    omega (arith, found_in c.requires.linked.0 (rows c.args.table.now) c.requires.table_value d _ (c.extent_start.ensures ∙ ap (λ (f : Fields). f.extent_start) (item-decode _ _ c.item_at-item.ensures)) _ _ (sym c.in-At.is ∙ c.find_row.ensures), c.requires.linked.1.row_room, c.well_formed.1.1.1.1.1.0)
+    omega (arith, found_in c.requires.linked.0 (rows c.args.table.now) c.requires.table_value d _ (c.extent_start.ensures ∙ ap (λ (f : Fields). f.extent_start) (item-decode _ _ c.item_at-item.ensures)) _ _ (sym c.in-Some.is ∙ c.find_row.ensures), c.requires.linked.1.row_room, c.well_formed.1.1.1.1.1.0)
 
 pub bounds-heads-k-2 : goal.bounds-heads-k-2
 bounds-heads-k-2 c = let d : InLeaf = record { item = decode (drop (c.args.i * 70) c.args.list.now); shared = get_or c.args.shared.now c.args.i 0 } in
-    omega (arith, found_in c.requires.linked.0 (rows c.args.table.now) c.requires.table_value d _ (c.extent_start.ensures ∙ ap (λ (f : Fields). f.extent_start) (item-decode _ _ c.item_at-item.ensures)) _ _ (sym c.in-At.is ∙ c.find_row.ensures), c.requires.linked.1.row_room)
+    omega (arith, found_in c.requires.linked.0 (rows c.args.table.now) c.requires.table_value d _ (c.extent_start.ensures ∙ ap (λ (f : Fields). f.extent_start) (item-decode _ _ c.item_at-item.ensures)) _ _ (sym c.in-Some.is ∙ c.find_row.ensures), c.requires.linked.1.row_room)
 
 pub widened-requires : goal.widened-requires
 widened-requires c = let d : InLeaf = record { item = decode (drop (c.args.i * 70) c.args.list.now); shared = get_or c.args.shared.now c.args.i 0 } in
-    omega (arith, found_in c.requires.linked.0 (rows c.args.table.now) c.requires.table_value d _ (c.extent_start.ensures ∙ ap (λ (f : Fields). f.extent_start) (item-decode _ _ c.item_at-item.ensures)) _ _ (sym c.in-At.is ∙ c.find_row.ensures), c.requires.linked.1.row_room, c.well_formed.1.1.1.1.1.0)
+    omega (arith, found_in c.requires.linked.0 (rows c.args.table.now) c.requires.table_value d _ (c.extent_start.ensures ∙ ap (λ (f : Fields). f.extent_start) (item-decode _ _ c.item_at-item.ensures)) _ _ (sym c.in-Some.is ∙ c.find_row.ensures), c.requires.linked.1.row_room, c.well_formed.1.1.1.1.1.0)
 
 pub returns : goal.returns
 returns c = λ p e l.
     let d : InLeaf = record { item = decode (drop (c.args.i * 70) c.args.list.now); shared = get_or c.args.shared.now c.args.i 0 } in
-    linked_put p _ _ _ _ _ _ l (omega (arith, c.requires.shared_len.1, c.requires.shared_len.0, leaves-length (items c.args.list.now) c.args.shared.now c.requires.shared_len.0, items-length c.args.list.now)) d (λ x. leaves_here c.args.list.now c.args.shared.now c.args.i x _ c.requires.shared_len.0 c.requires.shared_len.1 refl) c.requires.table_value _ (c.extent_start.ensures ∙ ap (λ (f : Fields). f.extent_start) (item-decode _ _ c.item_at-item.ensures)) _ _ (sym c.in-At.is ∙ c.find_row.ensures) _ e c.if-not-dropped.false _ c.widened.ensures
+    linked_put p _ _ _ _ _ _ l (omega (arith, c.requires.shared_len.1, c.requires.shared_len.0, leaves-length (items c.args.list.now) c.args.shared.now c.requires.shared_len.0, items-length c.args.list.now)) d (λ x. leaves_here c.args.list.now c.args.shared.now c.args.i x _ c.requires.shared_len.0 c.requires.shared_len.1 refl) c.requires.table_value _ (c.extent_start.ensures ∙ ap (λ (f : Fields). f.extent_start) (item-decode _ _ c.item_at-item.ensures)) _ _ (sym c.in-Some.is ∙ c.find_row.ensures) _ e c.if-not-dropped.false _ c.widened.ensures

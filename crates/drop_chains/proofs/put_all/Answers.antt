@@ -52,7 +52,7 @@ loop-h-smaller c = let p = c.requires.chain.0 in
 pub loop-h-preserved : goal.loop-h-preserved
 loop-h-preserved c = λ p q.
     let i = c.loop-h.invariant p q in
-    (walk_goes p c.args.list.now c.args.shared.now c.args.nexts.now _ c.requires.shared_len q _ _ i.0 c.loop-h-test.true _ c.wide-h.ensures, chain_turn ref_numbers _ _ _ _ _ _ _ _ (walk_takes p c.args.list.now c.args.shared.now c.args.nexts.now _ c.requires.shared_len q _ _ i.0 c.loop-h-test.true (fields c.item_at.result) (item-decode _ _ c.item_at.ensures)) i.1 _ _ c.put_drop-m.ensures)
+    (walk_goes p c.args.list.now c.args.shared.now c.args.nexts.now _ c.requires.shared_len q _ _ i.0 c.loop-h-test.true _ refl, chain_turn ref_numbers _ _ _ _ _ _ _ _ (walk_takes p c.args.list.now c.args.shared.now c.args.nexts.now _ c.requires.shared_len q _ _ i.0 c.loop-h-test.true (fields c.item_at.result) (item-decode _ _ c.item_at.ensures)) i.1 _ _ c.put_drop-m.ensures)
 
 pub shape_of-out : goal.shape_of-out
 shape_of-out c = let p = c.requires.chain.0 in

@@ -33,7 +33,7 @@ put_chain-at-requires c = let h : c.loop-k.k < length c.args.table.now / 5 = ome
     let row = c.row_at-row.result in
     record {
       shared_len = c.requires.shared_len;
-      chain = (drop_at p row.start, chain_of p c.args.table.now _ _ _ _ l _ _ _ h c.row_at-row.ensures c.wide-head.ensures, omega (arith, c.requires.linked.2, ap length (rows_chained p (in_leaves (items c.args.list.now) c.args.shared.now) c.args.release (rows c.args.table.now)), flat_room ref_numbers 2 (row_chain p c.args.release (in_leaves (items c.args.list.now) c.args.shared.now)) row_of 5 _ _ _ _ _ _ _ _ _ h c.row_at-row.ensures (c.loop-k.invariant p c.args.range l refl)));
+      chain = (drop_at p row.start, chain_of p c.args.table.now _ _ _ _ l _ _ _ h c.row_at-row.ensures refl, omega (arith, c.requires.linked.2, ap length (rows_chained p (in_leaves (items c.args.list.now) c.args.shared.now) c.args.release (rows c.args.table.now)), flat_room ref_numbers 2 (row_chain p c.args.release (in_leaves (items c.args.list.now) c.args.shared.now)) row_of 5 _ _ _ _ _ _ _ _ _ h c.row_at-row.ensures (c.loop-k.invariant p c.args.range l refl)));
     }
 
 pub overflow_step-k : goal.overflow_step-k
@@ -45,7 +45,7 @@ loop-k-smaller c = omega (arith, c.loop-k-test.true)
 pub loop-k-preserved : goal.loop-k-preserved
 loop-k-preserved c = λ p s l e.
     let h : c.loop-k.k < length c.args.table.now / 5 = omega (arith, c.loop-k-test.true, c.requires.linked.1.high, rows-length c.args.table.now) in
-    flat_turn ref_numbers 2 (row_chain p c.args.release (in_leaves (items c.args.list.now) c.args.shared.now)) row_of 5 _ _ _ _ _ _ _ _ _ h c.row_at-row.ensures (c.loop-k.invariant p s l e) _ _ (c.put_chain-at.ensures (drop_at p c.row_at-row.result.start) (chain_of p c.args.table.now _ _ _ s l _ _ _ h c.row_at-row.ensures c.wide-head.ensures))
+    flat_turn ref_numbers 2 (row_chain p c.args.release (in_leaves (items c.args.list.now) c.args.shared.now)) row_of 5 _ _ _ _ _ _ _ _ _ h c.row_at-row.ensures (c.loop-k.invariant p s l e) _ _ (c.put_chain-at.ensures (drop_at p c.row_at-row.result.start) (chain_of p c.args.table.now _ _ _ s l _ _ _ h c.row_at-row.ensures refl))
 
 pub shape_of-out : goal.shape_of-out
 shape_of-out c = going_length ref_numbers 2 (omega arith) (λ b. refl) _ _ _ _ _ _ (c.loop-k.invariant c.requires.linked.0 c.args.range c.requires.linked.1 refl)
