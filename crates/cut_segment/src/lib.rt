@@ -22,7 +22,7 @@ pub struct Segment {
     pub count: usize,
 }
 
-// ---- a buffer of records
+// ---- a buffer of records: the caller's, of a fixed size (the library has no heap), so how many there are stands beside it
 
 // Record n of a list.
 pub fn record_at(list: &[u8], n: usize) -> Item

@@ -20,7 +20,8 @@ use item::Item;
 
 // ---- the new items
 
-// Piece k as an item: the preallocated one over the whole of a new extent.
+// Piece k as an item: the preallocated one over the whole of a new extent. It is read by its place: one line of three numbers,
+// for which an array of lines would be no plainer.
 fn piece_at(pieces: &[u64], k: usize, file: u64, generation: u64) -> Item
     requires { k * 3 + 3 ≤ length pieces.now }
     ensures { fields result ≡ piece_item file generation (add_in (drop (k * 3) pieces.now)) }
