@@ -90,5 +90,5 @@ left_cons p m l e =
 pub pieces_next : (s t : Walker) (o : Option Piece) (p : Piece) → o ≡ Some p → YieldsFirstBy piece_of left s o t → left s ≡ piece_of p ∷ left t
 pieces_next s t o p e h = subst (λ (o : Option Piece). YieldsFirstBy piece_of left s o t) e h
 
-pub pieces_end : (s t : Walker) (o : Option Piece) → o ≡ None → YieldsFirstBy piece_of left s o t → left s ≡ []
-pieces_end s t o e h = (subst (λ (o : Option Piece). YieldsFirstBy piece_of left s o t) e h).0
+pub pieces_end : (s t : Walker) (o : Option Piece) → o ≡ None → YieldsFirstBy piece_of left s o t → (left s ≡ []) × (left t ≡ [])
+pieces_end s t o e h = subst (λ (o : Option Piece). YieldsFirstBy piece_of left s o t) e h

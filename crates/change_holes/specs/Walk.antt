@@ -46,9 +46,3 @@ stretches_left s = drop s.number (stretches s.wanted (items s.list.now))
 
 abbrev pub left : Walker → List Stretch
 left p = prealloc_pieces piece_limit (stretch_of p.rest) ++ flat_map (prealloc_pieces piece_limit) (stretches_left p.stretches)
-
--- the same pieces are left, and unless something is left of a stretch there are none
-pub record Settled (p r : Walker) : Type 0 where
-  pub same : left r ≡ left p
-  pub none : r.rest.stop ≤ r.rest.start → left r ≡ []
-  pub ends : r.rest.start < r.rest.stop → Ends (items r.stretches.list.now)

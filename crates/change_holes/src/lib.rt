@@ -8,7 +8,7 @@ ghost use Rattle.item.specs.Items.{items};
 ghost use Rattle.change_def.specs.Preallocs.{piece_limit, piece_count, prealloc_pieces, sum_of};
 ghost use Rattle.change_def.specs.Sweep.{up_to, sweep};
 ghost use Rattle.std.specs.Iterator.{YieldsFirstBy, item_count};
-ghost use Rattle.change_holes.specs.Walk.{Ends, stretch_of, piece_of, gap_start, gap_stop, stretches, stretches_left, wishes, left, Settled};
+ghost use Rattle.change_holes.specs.Walk.{Ends, stretch_of, piece_of, gap_start, gap_stop, stretches, stretches_left, wishes, left};
 
 // A stretch of a file from `start` up to `stop`; empty where `stop` is not past `start`.
 #[derive(Clone, Copy)]
@@ -171,6 +171,17 @@ pub struct Piece {
     pub length: u64,
 }
 
+// What a stretch has behind its first `length` bytes.
+fn behind(s: Bounds, length: u64) -> Bounds
+    requires { s.start + length ≤ s.stop }
+    ensures { result ≡ record { start = s.start + length; stop = s.stop } }
+{
+    Bounds {
+        start: s.start + length,
+        stop: s.stop,
+    }
+}
+
 // The pieces, one by one: what is left of a stretch, and the stretches behind it.
 #[derive(Clone, Copy)]
 pub struct Walker<'a> {
@@ -188,21 +199,6 @@ pub fn walk<'a>(w: NewExtents, list: &'a [u8]) -> Walker<'a>
     }
 }
 
-// On to the next stretch that is not empty, unless something is left of this one.
-fn settle<'a>(p: Walker<'a>) -> Walker<'a>
-    requires { Ends (items p.stretches.list.now) }
-    ensures { Settled p.entry result }
-{
-    let mut p = p;
-    while p.rest.stop <= p.rest.start {
-        let Some(s) = p.stretches.next() else {
-            return p;
-        };
-        p.rest = s;
-    }
-    p
-}
-
 impl<'a> Iterator for Walker<'a> {
     type Item = Piece;
 
@@ -212,24 +208,17 @@ impl<'a> Iterator for Walker<'a> {
 
     ghost remaining = { item_count left };
 
-    // What is left of a stretch, up to the limit.
+    // Of what is left of a stretch, or else of the next one that is not empty, up to the limit.
     fn next(&mut self) -> Option<Piece> {
-        let at = settle(*self);
-        let rest = at.rest;
-        if rest.stop <= rest.start {
-            return None;
+        while self.rest.stop <= self.rest.start {
+            let Some(s) = self.stretches.next() else {
+                return None;
+            };
+            self.rest = s;
         }
-        let length = length_of(rest).min(268435456);
-        *self = Walker {
-            rest: Bounds {
-                start: rest.start + length,
-                stop: rest.stop,
-            },
-            stretches: at.stretches,
-        };
-        Some(Piece {
-            start: rest.start,
-            length,
-        })
+        let start = self.rest.start;
+        let length = length_of(self.rest).min(268435456);
+        self.rest = behind(self.rest, length);
+        Some(Piece { start, length })
     }
 }

@@ -65,9 +65,6 @@ placed-take (suc k) [] ws = refl
 placed-take (suc k) (p ∷ ps) [] = refl
 placed-take (suc k) (p ∷ ps) (w ∷ ws) = ap (λ (l : List Add). record { start = p; length = w.length; key = w.key } ∷ l) (placed-take k ps ws)
 
-pub half_long : (ps : List ℕ) → length (take (length ps / 2) ps) ≡ length ps / 2
-half_long ps = length-take-le (length ps / 2) ps (omega arith)
-
 pub part-refused : (k : ℕ) (ps : List ℕ) (ws : List Wanted) (x : ℕ) → x ≡ unless (pairs places_apart (placed (take k ps) ws)) 26 → (x ≡ 0 → ⊥) → x ≡ unless (pairs places_apart (placed ps ws)) 26
 part-refused k ps ws x e z = go (pairs places_apart (placed ps ws)) refl
   where

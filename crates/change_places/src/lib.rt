@@ -57,16 +57,11 @@ impl<'a> Iterator for Extents<'a> {
         if self.number >= self.places.len() {
             return None;
         }
-        let mut walk = self.walk;
-        let Some(piece) = walk.next() else {
+        let Some(piece) = self.walk.next() else {
             return None;
         };
         let start = self.places[self.number];
-        *self = Extents {
-            places: self.places,
-            number: self.number + 1,
-            walk,
-        };
+        self.number += 1;
         Some(Extent {
             start,
             length: piece.length,

@@ -90,6 +90,3 @@ module _ (o : ℕ) where
 -- what a search says
 pub found_some : (o : Option Holder) (h : Holder) (x : maybe.Option InLeaf) → o ≡ Some h → holder_in o ≡ x → some (holder_leaf h) ≡ x
 found_some o h x t e = rw t at e
-
-pub found_none : (o : Option Holder) (x : maybe.Option InLeaf) → o ≡ None → holder_in o ≡ x → none ≡ x
-found_none o x t e = rw t at e

@@ -36,20 +36,6 @@ position_facts f o s h =
     let fits = (range_facts f s).fits in
     (low, omega arith)
 
--- ---- a rewrite, by the item that holds its sector
-
-module _ (g : Ground) (r : Rewrite) where
-  -- one that 16 does not refuse, of a preallocated item
-  pub rewrite-in-place :
-      (h : InLeaf) (why : ℕ)
-      → some h ≡ holder_of r.sector g.in_leaves
-      → (g.nodatacow && eqb h.item.kind 1) ≡ false
-      → h.item.kind ≡ 2
-      → why ≡ in_place_refusal g r h
-      → why ≡ rewrite_refusal g r
-  unfolding first
-  rewrite-in-place h why e n k pw = rw (pw, ← e, n, k) refl
-
 -- the item found holds the offset, and its range is sound
 pub holder-sound : (g : Ground) (o : ℕ) (h : InLeaf) → Sound g → some h ≡ holder_of o g.in_leaves → (range_sound h.item ≡ true) × (holds o h.item ≡ true)
 holder-sound g o h s e =
