@@ -1,16 +1,16 @@
 -- The item that holds an offset, by the first that ends past it. Assumes nothing.
 use mathlib.Core.Path.{◌≡◌, refl, sym}
-use mathlib.Core.Bool.{Bool, true, false, cond, ◌&&◌, and-false}
+use mathlib.Core.Bool.{Bool, true, false, cond, and-false}
 use mathlib.Core.List.{List, [], ◌∷◌}
 use mathlib.Core.Option as maybe
 use mathlib.Core.Option.{none, some}
 use Prim.Native.Nat.{ℕ, suc, ◌<◌, ◌≤◌}
 use native.Mathlib.Omega.{arith}
-use lib.Dec.{eqb, leb}
+use lib.Dec.{leb}
 use lib.ListN.{length, get_or}
 use borrow.Author.Tests.{leb-true, leb-false, lt-leb, le-ltb}
-use Rattle.std.specs.Prelude.{Option, Some, None}
-use Rattle.item.specs.Items.{Fields, fields, items, end}
+use Rattle.std.specs.Prelude.{Option, Some}
+use Rattle.item.specs.Items.{Fields, items, end}
 use Rattle.lists.proofs.Laws.{well_kept_lem}
 use Rattle.cut_def.specs.Mappings.{named, holds}
 use Rattle.cut_segment.specs.Segments.{nothing, item_at, leading, ends_by, Runs}
@@ -19,8 +19,7 @@ use Rattle.request.specs.declared.Volume.{Volume}
 use Rattle.request.specs.declared.File.{File}
 use Rattle.ref_def.specs.Drops.{InLeaf, in_leaves}
 use Rattle.ref_def.proofs.Drops.{leaves-items}
-use Rattle.change_def.specs.declared.Rewrite.{Rewrite}
-use Rattle.change_def.specs.Rewrites.{holder_of, when_held, preallocated_in}
+use Rattle.change_def.specs.Rewrites.{holder_of}
 use Rattle.change_def.proofs.Fair.{Sound}
 use Rattle.change_rewrites.specs.declared.Holder.{Holder}
 use Rattle.change_rewrites.specs.Raw.{holder_leaf, holder_in, lent_ground}

@@ -1,29 +1,20 @@
 -- What refuses a sector that is written in place, from what the tests of the code say. Assumes nothing.
-use mathlib.Core.Path.{◌≡◌, refl, ◌∙◌, sym}
-use mathlib.Core.Bool.{Bool, true, false, ◌&&◌, ◌||◌, not}
-use mathlib.Core.List.{List}
-use mathlib.Core.Option.{none, some}
+use mathlib.Core.Path.{◌≡◌, ◌∙◌, sym}
+use mathlib.Core.Bool.{Bool, true, ◌&&◌, ◌||◌, not}
+use mathlib.Core.Option.{some}
 use Prim.Native.Nat.{ℕ, ◌+◌, ◌-◌, ◌<◌, ◌≤◌, ◌^◌}
 use native.Mathlib.Omega.{arith}
 use lib.Dec.{eqb, leb, ltb}
 use borrow.Author.Tests.{leb-true, ltb-true}
-use Rattle.std.specs.Prelude.{Some, None}
-use Rattle.records.specs.Stages.{whenever, unless, first, first_of, every}
-use Rattle.records.proofs.Tests.{both_left, both_right, implied, first_last}
+use Rattle.records.specs.Stages.{every}
+use Rattle.records.proofs.Tests.{both_left, both_right, implied}
 use Rattle.records.proofs.Lists.{every_mem, every-mapped}
 use Rattle.item.specs.Items.{Fields, ranged, hole, end}
-use Rattle.table.specs.declared.Row.{Row}
-use Rattle.table.specs.Rows.{find}
-use Rattle.table.specs.Windows.{window_inside}
-use Rattle.table.proofs.Laws.{with_none}
 use Rattle.lists.specs.Lists.{item_sound, range_sound}
 use Rattle.lists.proofs.Order.{range_facts}
 use Rattle.cut_def.specs.Mappings.{named, holds}
-use Rattle.cut_def.specs.Refs.{naming}
 use Rattle.ref_def.specs.Drops.{InLeaf}
-use Rattle.change_def.specs.declared.Rewrite.{Rewrite}
-use Rattle.change_def.specs.Rewrites.{Ground, holder_of, position_of, in_place_refusal, rewrite_refusal}
-use Rattle.change_rewrites.specs.Raw.{in_place_why}
+use Rattle.change_def.specs.Rewrites.{Ground, holder_of}
 use Rattle.change_def.proofs.Fair.{Sound}
 use Rattle.change_def.proofs.Rewrites.{holder_says}
 

@@ -1,4 +1,3 @@
-use mathlib.Core.Path.{◌∙◌}
 use native.Mathlib.Omega.{arith}
 use Rattle.item.proofs.Laws.{items-length}
 use Rattle.change_rewrites.proofs.Holding.{holder-none, holder_stop, holder_free}

@@ -1,7 +1,6 @@
 use mathlib.Core.Path.{◌≡◌, ◌∙◌, sym, ap}
 use mathlib.Core.List.{List}
 use mathlib.Core.Option.{some}
-use Prim.Native.Nat.{ℕ}
 use Rattle.std.proofs.Common.{rules}
 use Rattle.records.specs.Refusals.{why}
 use Rattle.records.specs.Stages.{first}
@@ -31,6 +30,6 @@ returns c =
     let h = holder_leaf c.in-Some.h in
     let g = lent_ground a.v a.f a.list.now a.shared.now a.table.now in
     let e : why c.in_place_refusal.result ≡ in_place_refusal g a.r h =
-      c.in_place_refusal.ensures ∙ ap (λ (fs : List Fields). in_place_why a.v.sector a.v.snapshot fs (rows a.table.now) a.r h) (sym (leaves-items (items a.list.now) a.shared.now c.requires.1)) in
+    c.in_place_refusal.ensures ∙ ap (λ (fs : List Fields). in_place_why a.v.sector a.v.snapshot fs (rows a.table.now) a.r h) (sym (leaves-items (items a.list.now) a.shared.now c.requires.1)) in
     let held : some h ≡ holder_of a.r.sector g.in_leaves = found_some c.holding_item.result c.in-Some.h _ c.in-Some.is c.holding_item.ensures in
     rw (← held) (search (rules, e))
