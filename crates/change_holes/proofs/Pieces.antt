@@ -5,9 +5,7 @@ use Prim.Native.Nat.{ℕ, zero, suc, ◌+◌, ◌-◌, ◌*◌, ◌/◌, ◌≤�
 use native.Mathlib.Omega.{arith}
 use native.Mathlib.Nat.{add-zero, zero-add, zero-mul, add-mul, one-mul, sub-zero, div-eq_of_lt, div-eq-sub-div}
 use native.Mathlib.Decide.{dec_lt}
-use native.Mathlib.Numerals.{add-one}
-use lib.ListN.{length, drop, get_or, length-append, drop_of_length-le}
-use lib.Seq.{drop-cons}
+use lib.ListN.{length, length-append}
 use Rattle.change_def.specs.Preallocs.{Stretch, piece_limit, piece_count, pieces_from, prealloc_pieces, sum_of}
 use Rattle.change_def.proofs.Preallocs.{pieces-length}
 

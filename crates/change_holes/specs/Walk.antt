@@ -1,5 +1,5 @@
 -- For the code only: what the structs and functions of this crate say, in the terms of the definitions.
-use Rattle.std.specs.Prelude.{true, ◌≡◌, ℕ, zero, suc, ◌≤◌, ◌<◌, ◌^◌, min, max, leb, drop, length}
+use Rattle.std.specs.Prelude.{true, ◌≡◌, ℕ, zero, suc, ◌^◌, min, max, leb, drop}
 use mathlib.Core.List.{List, [], ◌∷◌, ◌++◌, flat_map}
 use Rattle.records.specs.Stages.{every}
 use Rattle.item.specs.Items.{Fields, items, end}

@@ -1,7 +1,6 @@
 use mathlib.Core.Path.{refl, ap}
 use native.Mathlib.Omega.{arith}
 use denote.Bor.{now}
-use Rattle.change_holes.specs.Walk.{stretch_of, stretches_left}
 use Rattle.change_holes.proofs.Pieces.{summed_first, summed_turn, summed_bytes, summed_pieces, summed_last}
 use Rattle.change_holes.proofs.Walking.{stretches_swept, stretches_next, stretches_end}
 use Rattle.change_holes.proofs.sum_holes.Goals as goal

@@ -1,4 +1,4 @@
-use Rattle.std.proofs.Common.{rules, length, ap, ◌≡◌}
+use Rattle.std.proofs.Common.{rules, length, ap}
 use mathlib.Core.Path.{◌∙◌, sym}
 use native.Mathlib.Omega.{arith}
 use Prim.Native.Nat.{ℕ, min}
