@@ -80,12 +80,7 @@ fn place_refusal(table: &[u64], e: Extent) -> Result<(), Refusal>
 
 // Of each.
 #[tactic(auto, unfolding(records::specs::Stages::every))]
-fn each_refusal(
-    w: NewExtents,
-    list: &[u8],
-    table: &[u64],
-    places: &[u64],
-) -> Result<(), Refusal>
+fn each_refusal(w: NewExtents, list: &[u8], table: &[u64], places: &[u64]) -> Result<(), Refusal>
     requires { Ends (items list.now) × (table_kept (rows table.now) ≡ true) }
     ensures { why result ≡ unless (every (place_sound (rows table.now)) (placed places.now (map wanted_of (wishes w (items list.now))))) 26 }
 {

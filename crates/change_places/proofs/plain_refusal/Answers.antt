@@ -1,10 +1,8 @@
-use mathlib.Core.Path.{ap, sym}
+use mathlib.Core.Path.{ap}
 use mathlib.Core.List.{List}
-use denote.Bor.{now}
 use Rattle.records.specs.Stages.{pairs}
 use Rattle.plan_def.specs.Plans.{Add}
 use Rattle.plan_def.specs.Places.{places_apart}
-use Rattle.item.specs.Items.{items}
 use Rattle.change_places.proofs.plain_refusal.Goals as goal
 
 pub loop-e-init : goal.loop-e-init
