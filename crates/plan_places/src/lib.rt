@@ -13,6 +13,7 @@ ghost use Rattle.plan_def.specs.Outputs.{room_for};
 use records::refusal::{Refusal, check};
 use records::sum_at_most;
 use request::Numbers;
+use table::WIDTH;
 
 // Whether [a, a + m) and [b, b + n) share no byte.
 pub fn is_clear(a: u64, m: u64, b: u64, n: u64) -> bool
@@ -27,23 +28,12 @@ pub fn place_clear(table: &[u64], start: u64, length: u64) -> bool
     requires { table_kept (rows table.now) ≡ true }
     ensures { result ≡ every (λ (row : Row). clear start length row.start row.length) (rows table.now) }
 {
-    let n = table.len() / 5;
-    let mut lo = 0;
-    let mut hi = n;
-    while lo < hi {
-        let mid = lo + (hi - lo) / 2;
-        let row = table::row_at(table, mid);
-        if sum_at_most(row.start, row.length, start) {
-            lo = mid + 1;
-        } else {
-            hi = mid;
-        }
-    }
-    if lo == n {
+    let (lines, _) = table.as_chunks::<WIDTH>();
+    let k = lines.partition_point(|line| sum_at_most(line[0], line[1], start));
+    if k == lines.len() {
         return true;
     }
-    let row = table::row_at(table, lo);
-    sum_at_most(start, length, row.start)
+    sum_at_most(start, length, lines[k][0])
 }
 
 // Refusal 26 of one place: it is 0, has no 64-bit end, or meets a row.

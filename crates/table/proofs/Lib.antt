@@ -4,3 +4,4 @@ pub mod Examples
 pub mod Windows
 pub mod Samples
 pub mod Reading
+pub mod Arrays

@@ -1,5 +1,5 @@
 -- What a reader has left, at the end and behind a row.
-use Rattle.std.proofs.Common.{◌≡◌, ℕ, ◌+◌, ◌*◌, ◌/◌, ◌<◌, ◌≤◌, [], ◌∷◌, length, drop, ap, sym, ◌∙◌}
+use Rattle.std.proofs.Common.{◌≡◌, ◌+◌, ◌*◌, ◌/◌, ◌<◌, ◌≤◌, [], ◌∷◌, length, drop, ap, sym, ◌∙◌}
 use mathlib.Core.Path.{ap₂}
 use denote.Bor.{now}
 use Rattle.std.proofs.lemmas.List.{at_drop_more, at_drop_all}

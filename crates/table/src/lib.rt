@@ -91,19 +91,10 @@ pub fn find_row(table: &[u64], start: u64) -> Option<(usize, Row)>
     requires { table_kept (rows table.now) ≡ true }
     ensures { result ≡ find start (rows table.now) }
 {
-    let mut lo = 0;
-    let mut hi = table.len() / WIDTH;
-    while lo < hi {
-        let mid = lo + (hi - lo) / 2;
-        let s = table[mid * WIDTH];
-        if s == start {
-            return Some((mid, row_at(table, mid)));
-        }
-        if s < start {
-            lo = mid + 1;
-        } else {
-            hi = mid;
-        }
+    let (lines, _) = table.as_chunks::<WIDTH>();
+    let k = lines.partition_point(|line| line[0] < start);
+    if k < lines.len() && lines[k][0] == start {
+        return Some((k, row_at(table, k)));
     }
     None
 }

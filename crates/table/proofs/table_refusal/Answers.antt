@@ -1,4 +1,4 @@
-use Rattle.std.proofs.Common.{rules, ◌∙◌, ap}
+use Rattle.std.proofs.Common.{◌∙◌, ap}
 use Rattle.records.specs.Raw.{sieve}
 use Rattle.table.specs.Raw.{row_refusal, row_end}
 use Rattle.table.specs.Reading.{left}
