@@ -1,11 +1,12 @@
 -- The laws of appending parts one by one. Assumes nothing.
 use mathlib.Core.Path.{◌≡◌, refl, ◌∙◌, sym, subst}
-use mathlib.Core.List.{List, [], ◌∷◌, ◌++◌}
-use Prim.Native.Nat.{ℕ, ◌+◌, ◌≤◌}
+use mathlib.Core.List.{List, [], ◌∷◌, ◌++◌, append_assoc}
+use Prim.Native.Nat.{ℕ, ◌+◌, ◌-◌, ◌≤◌}
 use native.Mathlib.Omega.{arith}
 use native.Mathlib.Nat.{add-zero}
 use lib.ListN.{length, take, drop, length-append, length-drop}
-use lib.Seq.{take_all}
+use lib.Seq.{take_all, drop-drop}
+use borrow.Rule.Slice.PartMut.{put_mid}
 use Rattle.endian.specs.Le.{put}
 use Rattle.endian.proofs.Puts.{length-put, put-put, put_nil}
 use Rattle.print_field.specs.Text.{joined, Added}
@@ -65,3 +66,10 @@ added-copied s j k at d d' h e =
     let n : length (drop j s) ≡ k = length-drop j s ∙ omega arith in
     let t : take k (drop j s) ≡ drop j s = take_all k (drop j s) (omega arith) in
     record { next = rw n refl; output = rw t at e }
+
+-- a text, copied over its part of the buffer
+pub added-text : (s : List ℕ) (at : ℕ) (d part : List ℕ) → part ≡ s → at + length s ≤ length d → Added s at d (at + length s) (put_mid at (at + length s - at) d part)
+unfolding put
+added-text s at d part e h =
+    let n : at + length s - at ≡ length s = omega arith in
+    record { next = refl; output = rw (n, e, drop-drop (length s) at d) (sym (append_assoc (take at d) s (drop (at + length s) d))) }

@@ -18,7 +18,7 @@ pub fn put_text(out: &mut [u8], at: usize, text: &[u8]) -> usize
     requires { at + length text.now ≤ length out.old }
     ensures { Added text.now at out.old result out.new }
 {
-    endian::copy(text, 0, out, at, text.len());
+    out[at..at + text.len()].copy_from_slice(text);
     at + text.len()
 }
 
@@ -32,11 +32,11 @@ pub fn put_number(out: &mut [u8], at: usize, n: u64) -> usize
     let mut rest = n;
     while rest >= 10 {
         i -= 1;
-        digits[i] = 48 + (rest % 10) as u8;
-        rest = rest / 10;
+        digits[i] = b'0' + (rest % 10) as u8;
+        rest /= 10;
     }
     i -= 1;
-    digits[i] = 48 + rest as u8;
+    digits[i] = b'0' + rest as u8;
     endian::copy(&digits, i, out, at, 20 - i);
     at + (20 - i)
 }

@@ -48,7 +48,7 @@ pub fn put_plan(out: &mut [u8], at: usize, size: u64, bytes: u64, prealloc: bool
     requires { at + length (plan_line size bytes prealloc) ≤ length out.old }
     ensures { Added (plan_line size bytes prealloc) at out.old result out.new }
 {
-    let mark = records::pick(prealloc, 1, 0);
+    let mark = u64::from(prealloc);
     let a = put_text(out, at, b"(plan");
     let b = put_field(out, a, b"size", size);
     let c = put_field(out, b, b"bytes", bytes);
