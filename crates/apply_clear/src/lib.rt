@@ -22,7 +22,7 @@ fn is_clear_of_row(row: Row, gone: u8, start: u64, len: u64) -> bool
     gone != 0 || is_clear(start, len, row.start, row.length)
 }
 
-// Whether a new extent shares no byte with a row that stays, row by row.
+// Whether a new extent shares no byte with a row that stays, row by row. By number: a row and its mark stand at one number.
 fn is_clear_by_row(table: &[u64], gone: &[u8], start: u64, len: u64) -> bool
     requires { length (rows table.now) ≤ length gone.now }
     ensures { result ≡ clear_from gone.now 0 start len (rows table.now) }

@@ -120,7 +120,7 @@ pub fn net(references: u64, gained: u64, lost: u64) -> u64
     references + (gained - lost)
 }
 
-// Refusal 3: a net count that leaves 64 bits.
+// Refusal 3: a net count that leaves 64 bits. By number: a row and its counts stand at one number of the table and two arrays.
 pub fn nets_refusal(table: &[u64], counts: RowCounts) -> Result<(), Refusal>
     requires { (length (rows table.now) ≤ length counts.gained.now) × (length (rows table.now) ≤ length counts.lost.now) }
     ensures { why result ≡ unless (nets_from counts.entry.gained.now counts.entry.lost.now 0 (rows table.now)) 3 }

@@ -45,7 +45,7 @@ pub fn edits_size_refusal(edits: &[u8]) -> Result<(), Refusal>
     )
 }
 
-// Refusal 2 of edits that do not rise by key.
+// Refusal 2 of edits that do not rise by key. By number: a turn takes two neighbours.
 pub fn edits_order_refusal(edits: &[u8]) -> Result<(), Refusal>
     ensures { why result ≡ unless (pairs edits_rise (edits_in edits.now)) 2 }
 {
