@@ -14,46 +14,28 @@ ghost use Rattle.clone_def.specs.Clone.{clone_lent};
 ghost use Rattle.ffi.specs.Exports.{nine, Told, Exported, volume, file, range, clone_range};
 
 use clone_span::CloneRange;
-use records::refusal;
+use records::refusal::Refusal;
 use request::{Answer, File, Numbers, Range, Volume};
 
 // ---- what goes in and comes out
-
-fn volume(sector: u64, total: u64, generation: u64, snapshot: u64) -> Volume
-    ensures { result ≡ volume sector total generation snapshot }
-{
-    Volume {
-        sector,
-        total,
-        generation,
-        snapshot,
-    }
-}
-
-fn file(number: u64, size: u64, nodatacow: bool) -> File
-    ensures { result ≡ file number size nodatacow }
-{
-    File {
-        number,
-        size,
-        nodatacow,
-    }
-}
 
 // The nine numbers of a plan over the first of `answer`.
 fn put_nine(n: Numbers, answer: &mut [u64])
     requires { 9 ≤ length answer.old }
     ensures { answer.new ≡ put (nine n) 0 answer.old }
 {
-    answer[0] = n.edits as u64;
-    answer[1] = n.shares as u64;
-    answer[2] = n.unrefs as u64;
-    answer[3] = n.releases as u64;
-    answer[4] = n.adds as u64;
-    answer[5] = n.writes as u64;
-    answer[6] = n.size;
-    answer[7] = n.bytes;
-    answer[8] = records::pick(n.prealloc, 1, 0);
+    let numbers = [
+        n.edits as u64,
+        n.shares as u64,
+        n.unrefs as u64,
+        n.releases as u64,
+        n.adds as u64,
+        n.writes as u64,
+        n.size,
+        n.bytes,
+        n.prealloc as u64,
+    ];
+    plan_lines::put_numbers(answer, 0, numbers);
 }
 
 // An answer's byte, and its numbers if it is a plan.
@@ -101,11 +83,20 @@ pub extern "C" fn zag_punch(
         result answer (six edits shares unrefs releases adds writes) }
 {
     if answer.len() < 9 {
-        return refusal::ROOM;
+        return Refusal::Room.number();
     }
     let a = punch::punch_hole(
-        volume(sector, total, generation, snapshot),
-        file(number, size, nodatacow),
+        Volume {
+            sector,
+            total,
+            generation,
+            snapshot,
+        },
+        File {
+            number,
+            size,
+            nodatacow,
+        },
         Range { offset, length },
         list,
         shared,
@@ -150,11 +141,20 @@ pub extern "C" fn zag_fallocate(
         result answer (six edits shares unrefs releases adds writes) }
 {
     if answer.len() < 9 {
-        return refusal::ROOM;
+        return Refusal::Room.number();
     }
     let a = fallocate::fallocate(
-        volume(sector, total, generation, snapshot),
-        file(number, size, nodatacow),
+        Volume {
+            sector,
+            total,
+            generation,
+            snapshot,
+        },
+        File {
+            number,
+            size,
+            nodatacow,
+        },
         Range { offset, length },
         keep,
         list,
@@ -201,12 +201,25 @@ pub extern "C" fn zag_clone<'a>(
         result answer (four edits shares unrefs releases) }
 {
     if answer.len() < 9 {
-        return refusal::ROOM;
+        return Refusal::Room.number();
     }
     let a = clone::clone_range(
-        volume(sector, total, generation, snapshot),
-        file(number, size, false),
-        file(source_number, source_size, false),
+        Volume {
+            sector,
+            total,
+            generation,
+            snapshot,
+        },
+        File {
+            number,
+            size,
+            nodatacow: false,
+        },
+        File {
+            number: source_number,
+            size: source_size,
+            nodatacow: false,
+        },
         own,
         CloneRange { from, to, length },
         list,
