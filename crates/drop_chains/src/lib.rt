@@ -25,7 +25,9 @@ pub fn is_asked(release: bool, released: bool) -> bool
     release == released
 }
 
-// Whether the drops of a chain free their extent. `at` is behind the last that was seen.
+// Whether the drops of a chain free their extent. `at` is behind the last that was seen. The walk stands here and in put_all as a
+// loop, and is no iterator: a `for` would ask of every chain that it ends, and that a chain ends is no fact of its arrays, but of
+// the list that they were made from, which only the contract names.
 fn is_freed(references: u64, list: &[u8], shared: &[u8], nexts: &[u32], head: usize) -> bool
     requires shared_len { length shared.now ≡ length (items list.now) }
     requires chain { (p : InLeaf → Bool) × Chain p (in_leaves (items list.now) shared.now) nexts.now head }
@@ -161,6 +163,7 @@ pub fn put_rows(
         → Laid ref_numbers 2 n (cond release (releases (rows table.now) (drops_by p (in_leaves (items list.now) shared.now))) (unrefs (rows table.now) (drops_by p (in_leaves (items list.now) shared.now)))) out.old result out.new }
 {
     let mut at = n;
+    // k picks the row and the head of its chain.
     for k in range.start..range.end {
         let row = table::row_at(table, k);
         let head = heads[k] as usize;
