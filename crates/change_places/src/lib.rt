@@ -78,7 +78,7 @@ fn place_refusal(table: &[u64], e: Extent) -> Result<(), Refusal>
     plan_places::place_refusal(table, e.start, e.length)
 }
 
-// Of each.
+// Refusal 26 of each place by itself, one after the other.
 #[tactic(auto, unfolding(records::specs::Stages::every))]
 fn each_refusal(w: NewExtents, list: &[u8], table: &[u64], places: &[u64]) -> Result<(), Refusal>
     requires { Ends (items list.now) × (table_kept (rows table.now) ≡ true) }
@@ -128,6 +128,7 @@ fn sorted_refusal(
     requires { Ends (items list.now) × (length places.now ≤ length buffer.old) }
     ensures { why result ≡ unless (pairs places_apart (placed places.now (map wanted_of (wishes w (items list.now))))) 26 }
 {
+    // how many there are is asked for behind the loop, too
     let mut n = 0;
     for e in extents_at(w, list, places) {
         buffer[n] = (e.start, e.length);

@@ -150,7 +150,8 @@ pub fn preallocated(r: Option<Rewrite>, list: &[u8], shared: &[u8]) -> Option<In
     Some(InPlace { rewrite, holder })
 }
 
-// The extent of a sector that is written in place; 0 if there is none.
+// The extent of a sector that is written in place. 0, where no extent starts, says that there is none: `Cut` (drop_lines)
+// compares it as it does an extent.
 pub fn extent_in_place(w: Option<InPlace>) -> u64
     ensures { result ≡ extent_of w }
 {
