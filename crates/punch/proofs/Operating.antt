@@ -1,6 +1,6 @@
 -- From the stages of a punch to its answer. Assumes nothing.
 use mathlib.Core.Path.{◌≡◌, refl, ap, ◌∙◌, sym}
-use mathlib.Core.Bool.{Bool}
+use mathlib.Core.Bool.{Bool, true, false, not}
 use mathlib.Core.List.{List}
 use mathlib.Core.Option.{none, some}
 use Prim.Native.Nat.{ℕ, zero, suc, ◌+◌, ◌<◌, ◌^◌}
@@ -50,25 +50,19 @@ passes zero o z = refl
 passes (suc x) o z = absurd (omega (arith, z))
 
 module _ (v : Volume) (f : File) (r : Range) (list shared table : List ℕ) where
-  -- the stages as the code groups them: 7 to 9 come last
-  module _ (a b c x y : ℕ) (t : Bool)
-      (pa : a ≡ lent v f list shared table)
-      (pb : b ≡ whenever (eqb r.length 0) 5)
-      (pt : t ≡ leb (r.offset + r.length) 9223372036854775807)
-      (pc : c ≡ unless t 6)
-      (px : x ≡ first b c)
-      (py : y ≡ first a x) where
-    range_whole : first y (stage record_refusal (items list)) ≡ range_lent v f r list shared table
-    unfolding range_refusal first_of
-    range_whole =
-        let l : ltb (r.offset + r.length) (2 ^ 63) ≡ leb (r.offset + r.length) 9223372036854775807 = ltb-suc (r.offset + r.length) 9223372036854775807 in
-        rw (py, px, pa, pb, pc, pt, l, first_last) (simp first_assoc)
-
-    pub range_stop : (y ≡ 0 → ⊥) → y ≡ range_lent v f r list shared table
-    range_stop n = first_stop y (stage record_refusal (items list)) n ∙ range_whole
-
-    pub range_go : y ≡ 0 → (d : ℕ) → d ≡ stage record_refusal (items list) → d ≡ range_lent v f r list shared table
-    range_go z d e = e ∙ sym (first_go y (stage record_refusal (items list)) z) ∙ range_whole
+  -- the stages as the code takes them
+  pub range_stages :
+      first (lent v f list shared table) (first (unless (not (eqb r.length 0)) 5) (first (unless (ltb (r.offset + r.length) (2 ^ 63)) 6) (stage record_refusal (items list))))
+      ≡ range_lent v f r list shared table
+  unfolding range_refusal first_of
+  range_stages = rw empty (simp (first_assoc, first_last))
+    where
+      empty : unless (not (eqb r.length 0)) 5 ≡ whenever (eqb r.length 0) 5
+      empty = go (eqb r.length 0)
+        where
+          go : (b : Bool) → unless (not b) 5 ≡ whenever b 5
+          go true = refl
+          go false = refl
 
   -- what passes them
   pub record Passed : Type 0 where

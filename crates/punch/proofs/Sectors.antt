@@ -3,11 +3,11 @@ use mathlib.Core.Path.{◌≡◌, refl, ap, ◌∙◌, sym}
 use mathlib.Core.Bool.{Bool, true, false, cond, ◌&&◌, not, and_assoc}
 use mathlib.Core.List.{List, [], ◌∷◌}
 use mathlib.Core.Option.{none, some}
-use Prim.Native.Nat.{ℕ, ◌+◌, ◌-◌, ◌<◌, ◌^◌}
+use Prim.Native.Nat.{ℕ, ◌+◌, ◌-◌, ◌<◌, ◌≤◌, ◌^◌}
 use native.Mathlib.Omega.{arith}
 use lib.Dec.{eqb, ltb}
 use lib.ListN.{length}
-use borrow.Author.Tests.{ltb-true}
+use borrow.Author.Tests.{lt-ltb, le-ltb}
 use Rattle.std.specs.Prelude.{Option, Some, None, is_some, option_to_list}
 use Rattle.std.specs.Bool.{then_some}
 use Rattle.records.specs.Select.{only}
@@ -27,8 +27,6 @@ use Rattle.change_def.proofs.Rounding.{down_below, sector-range}
 use Rattle.change_rewrites.specs.declared.Holder.{Holder}
 use Rattle.change_rewrites.specs.Raw.{holder_leaf, holder_in}
 use Rattle.punch_def.specs.Punch.{first_held, start_in, held_by, in_one_sector, within_sector, across_sectors, punch_change, change_from, plan_punch}
-use Rattle.punch.specs.Raw.{offset_in}
-use Rattle.punch.specs.declared.Start.{Start}
 
 -- an offset's sector fits 64 bits
 pub record Fitting (s x : ℕ) : Type 0 where
@@ -64,10 +62,6 @@ one_or_none : (b : Bool) (r : Rewrite) → option_to_list (then_some b r) ≡ on
 one_or_none true r = refl
 one_or_none false r = refl
 
--- inside one sector
-pub one-sector : (s x stop d e : ℕ) (b : Bool) → d ≡ round_down s x → e ≡ round_down s (stop - 1) → b ≡ (eqb d e && ltb (stop - x) s) → b ≡ in_one_sector s x stop
-one-sector s x stop d e b pd pe pb = rw (pb, pd, pe) refl
-
 module _ (size s x stop d up : ℕ) (pd : d ≡ round_down s x) (pu : up ≡ round_up s size) where
   pub within-is : (hi : ℕ) (front : Option Rewrite) → hi ≡ cond (ltb x up) (d + s) d → front ≡ then_some (ltb x up) (record { sector = d; first = x; end = stop })
       → change_of (record { lo = d; hi = hi; front = front; back = None }) size ≡ within_sector size s x stop
@@ -96,23 +90,16 @@ pub change_is : (fs : List Fields) (size s x stop : ℕ) (b t : Bool) (c : Chang
     → c ≡ cond t (within_sector size s x stop) (across_sectors fs size s x stop) → c ≡ punch_change fs size s x stop
 change_is fs size s x stop b t c e q p = p ∙ rw (sym e ∙ q) refl
 
--- the plan, by whether the start lies in the range
-module _ (fs : List Fields) (size s offset stop : ℕ) (start : Start) (b : Bool) (e : offset_in start ≡ first_held offset fs) (pb : b ≡ (start.found && ltb start.at stop)) where
-  plan-is : plan_punch fs size s offset stop ≡ cond b (some (punch_change fs size s start.at stop)) none
+-- the plan: from a start in the range, or none
+module _ (fs : List Fields) (size s offset stop : ℕ) where
+  pub plan-some : (x : ℕ) → some x ≡ first_held offset fs → x < stop → (c : Change) → c ≡ punch_change fs size s x stop → some c ≡ plan_punch fs size s offset stop
   unfolding plan_punch
-  plan-is = rw (← e, pb) (go start.found (ltb start.at stop) refl)
-    where
-      go : (f l : Bool) → ltb start.at stop ≡ l → change_from fs size s stop (start_in (cond f (some start.at) none) stop) ≡ cond (f && l) (some (punch_change fs size s start.at stop)) none
-      go true true p = rw p refl
-      go true false p = rw p refl
-      go false l p = refl
+  plan-some x e h c p = rw (← e, lt-ltb x stop h, p) refl
 
-  pub plan-some : b ≡ true → (c : Change) → c ≡ punch_change fs size s start.at stop → some c ≡ plan_punch fs size s offset stop
-  plan-some t c p = ap some p ∙ sym (plan-is ∙ rw t refl)
+  pub plan-past : (x : ℕ) → some x ≡ first_held offset fs → stop ≤ x → none ≡ plan_punch fs size s offset stop
+  unfolding plan_punch
+  plan-past x e h = rw (← e, le-ltb x stop h) refl
 
-  pub plan-none : b ≡ false → none ≡ plan_punch fs size s offset stop
-  plan-none t = sym (plan-is ∙ rw t refl)
-
-  -- then the range from the start on is not empty
-  pub plan-before : b ≡ true → start.at < stop
-  plan-before t = ltb-true start.at stop (both_right start.found (ltb start.at stop) (sym pb ∙ t))
+  pub plan-none : none ≡ first_held offset fs → none ≡ plan_punch fs size s offset stop
+  unfolding plan_punch
+  plan-none e = rw (← e) refl

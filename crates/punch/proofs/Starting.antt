@@ -84,18 +84,15 @@ module _ (offset : ℕ) where
         let p = both_left (ends_past f) (every ends_past ds) l.past in
         sym (lowest (max f.key offset) (end f) ds l.runs.4 (omega arith)) ∙ sym (rw (t, p) refl) ∙ l.same
 
-  -- ---- the loop: item i with what its calls say
+  -- ---- the loop: the next item, with what its calls say, and the end
 
-  module _ (fs : List Fields) (i : ℕ) (f : Fields) (h : Bool) (n : i < length fs) (e : f ≡ get_or fs i nothing) (q : h ≡ hole f) (l : Left fs (drop i fs)) where
-    left_cons : Left fs (f ∷ drop (i + 1) fs)
-    left_cons = rw (e, add-one) (rw (drop-cons fs i nothing n) at l)
+  module _ (fs l l' : List Fields) (f : Fields) (h : Bool) (e : l ≡ f ∷ l') (q : h ≡ hole f) (from : Left fs l) where
+    pub start-turn : h ≡ true → Left fs l'
+    start-turn t = left-next fs f l' (rw e at from) (sym q ∙ t)
 
-    pub start-turn : h ≡ true → Left fs (drop (i + 1) fs)
-    start-turn t = left-next fs f (drop (i + 1) fs) left_cons (sym q ∙ t)
+    pub start_stop : h ≡ false → some (max f.key offset) ≡ first_held offset fs
+    start_stop t = left_found fs f l' (rw e at from) (sym q ∙ t)
 
-    pub start_stop : h ≡ false → (m : ℕ) → m ≡ max f.key offset → some m ≡ first_held offset fs
-    start_stop t m s = ap some s ∙ left_found fs f (drop (i + 1) fs) left_cons (sym q ∙ t)
-
-  pub start_none : (fs : List Fields) (i : ℕ) → length fs ≤ i → Left fs (drop i fs) → none ≡ first_held offset fs
+  pub start_none : (fs l : List Fields) → l ≡ [] → Left fs l → none ≡ first_held offset fs
   unfolding first_held
-  start_none fs i h l = ap (first_held offset) (sym (drop_of_length-le fs h)) ∙ l.same
+  start_none fs l e from = ap (first_held offset) (sym e) ∙ from.same

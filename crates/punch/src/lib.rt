@@ -2,6 +2,7 @@
 #![tactic(auto)]
 
 ghost use Rattle.std.specs.Prelude.{true, ◌&&◌, [], ◌≡◌, ◌+◌, ◌<◌, ◌^◌, length};
+ghost use Rattle.records.specs.Refusals.{why};
 ghost use Rattle.item.specs.Items.{items};
 ghost use Rattle.cut_def.specs.Mappings.{holder};
 ghost use Rattle.cut_segment.specs.Segments.{Runs};
@@ -12,36 +13,23 @@ ghost use Rattle.punch_def.specs.Punch.{first_held, held_by, in_one_sector, with
 ghost use Rattle.punch.specs.Raw.{offset_in, punch_plan_said, range_lent};
 
 use change_def::{RangeChange, Rewrite};
-use records::{both, first, refusal, sum_at_most, unless, whenever};
+use records::refusal::{Refusal, check};
+use records::both;
 use request::{Answer, File, Range, Volume};
-
-// An offset of the file, if there is one.
-#[derive(Clone, Copy)]
-pub struct Start {
-    pub found: bool,
-    pub at: u64,
-}
 
 // The first offset at or past `offset` that an item holds which is no hole: of records that run one behind the other, in the
 // first that is no hole among those that end past it.
-fn first_held(list: &[u8], offset: u64) -> Start
+fn first_held(list: &[u8], offset: u64) -> Option<u64>
     requires { Runs 0 (items list.now) }
     ensures { offset_in result ≡ first_held offset (items list.now) }
 {
     let from = cut_segment::ending_by(list, offset);
-    for i in from..list.len() / item::RECORD {
-        let item = cut_segment::record_at(list, i);
+    for item in item::reader_at(list, from) {
         if !cut_def::is_hole(item) {
-            return Start {
-                found: true,
-                at: records::larger(item.key, offset),
-            };
+            return Some(item.key.max(offset));
         }
     }
-    Start {
-        found: false,
-        at: 0,
-    }
+    None
 }
 
 // Whether a range lies inside one sector, and is not the whole of it.
@@ -49,10 +37,8 @@ fn in_one_sector(sector: u64, start: u64, stop: u64) -> bool
     requires { (0 < sector) × (start < stop) }
     ensures { result ≡ in_one_sector sector start stop }
 {
-    both(
-        change_def::round_down(sector, start) == change_def::round_down(sector, stop - 1),
-        stop - start < sector,
-    )
+    change_def::round_down(sector, start) == change_def::round_down(sector, stop - 1)
+        && stop - start < sector
 }
 
 // What is cut and rewritten of a range inside one sector; the list has no say in it.
@@ -137,14 +123,7 @@ fn sectors_of(
     }
 }
 
-// What a punch sets out to do: a change of its range, or nothing.
-#[derive(Clone, Copy)]
-pub enum PunchPlan {
-    Change(RangeChange),
-    Nothing,
-}
-
-// The port's `plan_punch`: from the first offset in the range that an item holds, if there is one.
+// The port's `plan_punch`: from the first offset in the range that an item holds; none, and there is nothing to do.
 fn plan_punch(
     list: &[u8],
     shared: &[u8],
@@ -152,35 +131,35 @@ fn plan_punch(
     sector: u64,
     offset: u64,
     stop: u64,
-) -> PunchPlan
+) -> Option<RangeChange>
     requires { (sector_sound sector ≡ true) × (size < 2 ^ 63) × (stop < 2 ^ 63) × (length shared.now ≡ length (items list.now)) × Runs 0 (items list.now) }
     ensures { punch_plan_said result size ≡ plan_punch (items list.now) size sector offset stop }
 {
-    let start = first_held(list, offset);
-    if both(start.found, start.at < stop) {
-        PunchPlan::Change(sectors_of(list, shared, size, sector, start.at, stop))
-    } else {
-        PunchPlan::Nothing
+    let start = first_held(list, offset)?;
+    if start >= stop {
+        return None;
     }
+    Some(sectors_of(list, shared, size, sector, start, stop))
 }
 
 // ---- the operation
 
 // Refusals 1 to 9 of a punch or a fallocate: of what it is lent, of its range, and record by record.
-pub fn range_refusal(v: Volume, f: File, r: Range, list: &[u8], shared: &[u8], table: &[u64]) -> u8
-    ensures { result ≡ range_lent v f r list.now shared.now table.now }
+pub fn range_refusal(
+    v: Volume,
+    f: File,
+    r: Range,
+    list: &[u8],
+    shared: &[u8],
+    table: &[u64],
+) -> Result<(), Refusal>
+    ensures { why result ≡ range_lent v f r list.now shared.now table.now }
 {
-    let lent = refusal::number_of(request::lent_refusal(v, f, list, shared, table));
-    let empty = whenever(r.length == 0, refusal::EMPTY);
-    let far = unless(
-        sum_at_most(r.offset, r.length, 9223372036854775807),
-        refusal::TOO_FAR,
-    );
-    let broken = first(lent, first(empty, far));
-    if broken != 0 {
-        return broken;
-    }
-    refusal::number_of(lists::records_refusal(list))
+    request::lent_refusal(v, f, list, shared, table)?;
+    check(r.length != 0, Refusal::Empty)?;
+    let stop = r.offset.checked_add(r.length);
+    check(stop.is_some_and(|stop| stop < 9223372036854775808), Refusal::TooFar)?;
+    lists::records_refusal(list)
 }
 
 // A punch of a hole into a file: the answer, and the plan in the six outputs. Any bytes may be lent.
@@ -201,9 +180,8 @@ pub fn punch_hole(
 ) -> Answer
     ensures { Met f.number (punch_lent v f r list.now shared.now table.now places.now) result (six edits shares unrefs releases adds writes) }
 {
-    let why = range_refusal(v, f, r, list, shared, table);
-    if why != 0 {
-        return Answer::Refused(why);
+    if let Err(refusal) = range_refusal(v, f, r, list, shared, table) {
+        return Answer::Refused(refusal.number());
     }
     let plan = plan_punch(
         list,
@@ -214,8 +192,8 @@ pub fn punch_hole(
         r.offset + r.length,
     );
     match plan {
-        PunchPlan::Nothing => Answer::Nothing,
-        PunchPlan::Change(c) => change_range::change_range(
+        None => Answer::Nothing,
+        Some(c) => change_range::change_range(
             v,
             f,
             c,

@@ -1,20 +1,16 @@
 use Rattle.item.specs.Items.{items}
-use Rattle.item.proofs.Laws.{items-length}
 use Rattle.punch.proofs.Starting.{left-first, start-turn, start_stop, start_none}
-use native.Mathlib.Omega.{arith}
 use Rattle.punch.proofs.first_held.Goals as goal
 
-pub loop-i-init : goal.loop-i-init
-loop-i-init c = let a = c.args in rw c.ending_by-from.ensures (left-first a.offset 0 (items a.list.now) c.requires)
-
-pub record_at-item-requires : goal.record_at-item-requires
-record_at-item-requires c = let a = c.args in omega (arith, items-length a.list.now)
+pub loop-item-init : goal.loop-item-init
+loop-item-init c = let a = c.args in 
+    rw (c.into_iter-item-iterator.ensures.into_iter_gives, c.reader_at-item-items.ensures.0, c.reader_at-item-items.ensures.1, c.ending_by-from.ensures) (left-first a.offset 0 (items a.list.now) c.requires)
 
 pub returns-then-not-is_hole : goal.returns-then-not-is_hole
-returns-then-not-is_hole c = let a = c.args in start_stop a.offset (items a.list.now) _ _ _ (omega (arith, items-length a.list.now)) c.record_at-item.ensures c.is_hole.ensures c.loop-i.invariant c.if-not-is_hole.true _ c.larger.ensures
+returns-then-not-is_hole c = let a = c.args in rw c.max.ensures (start_stop a.offset (items a.list.now) _ _ _ _ c.in-Some.ensures.steps c.is_hole.ensures c.loop-item.invariant c.if-not-is_hole.true)
 
-pub loop-i-preserved : goal.loop-i-preserved
-loop-i-preserved c = let a = c.args in start-turn a.offset (items a.list.now) _ _ _ (omega (arith, items-length a.list.now)) c.record_at-item.ensures c.is_hole.ensures c.loop-i.invariant c.if-not-is_hole.false
+pub loop-item-preserved : goal.loop-item-preserved
+loop-item-preserved c = let a = c.args in start-turn a.offset (items a.list.now) _ _ _ _ c.in-Some.ensures.steps c.is_hole.ensures c.loop-item.invariant c.if-not-is_hole.false
 
 pub returns : goal.returns
-returns c = let a = c.args in start_none a.offset (items a.list.now) c.loop-i.i (omega (arith, items-length a.list.now)) c.loop-i.invariant
+returns c = let a = c.args in start_none a.offset (items a.list.now) _ c.in-None.ensures.steps.0 c.loop-item.invariant

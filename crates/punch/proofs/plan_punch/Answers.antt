@@ -1,15 +1,19 @@
+use mathlib.Core.Path.{ap, ◌∙◌}
+use Rattle.std.specs.Prelude.{Option}
 use Rattle.item.specs.Items.{items}
-use Rattle.punch.proofs.Sectors.{plan-some, plan-none, plan-before}
+use Rattle.change_def.specs.declared.RangeChange.{RangeChange}
+use Rattle.punch.specs.Raw.{punch_plan_said}
+use Rattle.punch.proofs.Sectors.{plan-some, plan-none, plan-past}
 use Rattle.punch.proofs.plan_punch.Goals as goal
 
-pub first_held-start-requires : goal.first_held-start-requires
-first_held-start-requires c = c.requires.4
+pub returns-in_err-start : goal.returns-in_err-start
+returns-in_err-start c = let a = c.args in
+    ap (λ (o : Option RangeChange). punch_plan_said o a.size) c.from_residual.ensures ∙ plan-none (items a.list.now) a.size a.sector a.offset a.stop c.in_err-start.ensures
 
-pub sectors_of-requires : goal.sectors_of-requires
-sectors_of-requires c = let a = c.args in let p = c.requires in (p.0, p.1, plan-before (items a.list.now) a.size a.sector a.offset a.stop c.first_held-start.result _ c.first_held-start.ensures c.both.ensures c.if-both.true, p.2, p.3, p.4)
+pub returns-then-start-stop : goal.returns-then-start-stop
+returns-then-start-stop c = let a = c.args in
+    plan-past (items a.list.now) a.size a.sector a.offset a.stop _ c.in_ok-start.ensures c.if-start-stop.true
 
-pub returns-then-both : goal.returns-then-both
-returns-then-both c = let a = c.args in plan-some (items a.list.now) a.size a.sector a.offset a.stop c.first_held-start.result _ c.first_held-start.ensures c.both.ensures c.if-both.true _ c.sectors_of.ensures
-
-pub returns-else-both : goal.returns-else-both
-returns-else-both c = let a = c.args in plan-none (items a.list.now) a.size a.sector a.offset a.stop c.first_held-start.result _ c.first_held-start.ensures c.both.ensures c.if-both.false
+pub returns : goal.returns
+returns c = let a = c.args in
+    plan-some (items a.list.now) a.size a.sector a.offset a.stop _ c.in_ok-start.ensures c.if-start-stop.false _ c.sectors_of.ensures
