@@ -8,7 +8,7 @@ use native.Mathlib.Nat.{zero-add}
 use lib.Dec.{eqb, leb}
 use lib.ListN.{length, replicate, length-append, length-replicate, replicate-append-replicate}
 use borrow.Author.Tests.{le-leb, eqb-true, eqb-false, ne_eqb}
-use Rattle.std.specs.Prelude.{Option, Some, None, option_to_list}
+use Rattle.std.specs.Prelude.{Option, Some, None, Ok, option_to_list}
 use Rattle.std.specs.Option.{ForSome}
 use Rattle.records.specs.Records.{chunks, records}
 use Rattle.records.specs.Stages.{first, first_of, every, pairs, stage}
@@ -55,7 +55,6 @@ use Rattle.change_lay.specs.declared.Counts.{Counts}
 use Rattle.change_lay.proofs.Laying.{ready_now}
 use Rattle.change_lay.specs.Laid.{Started, Pieced, plan_at, edits_at, PlanLaid}
 use Rattle.change_draft.specs.declared.Needs.{Needs}
-use Rattle.change_draft.specs.declared.Draft.TheVariants as draft
 use Rattle.change_draft.specs.Raw.{draft_said, side_of, extents_of, counts_of, numbers_of, Asked}
 use Rattle.change_draft.proofs.Filled.{pieces-count, holes_sum, sectors_now, wishes_now, bytes_fit_now, numbers_now}
 
@@ -154,7 +153,7 @@ module _ (v : Volume) (f : File) (c : RangeChange) (w : Fill) (p : Parts) (list 
       let k = was_refused _ (change_refusal g d) why h in
       refuse_first (change_refusal g d) _ _ (plan_of g d piece_limit ps) k.1 ∙ ap refused (sym k.0)
 
-  pub planned-told : (n : Needs) → draft_said (items list) (draft.Plan n) ≡ drafted g d piece_limit → change_refusal g d ≡ 0
+  pub planned-told : (n : Needs) → draft_said (items list) (Ok n) ≡ drafted g d piece_limit → change_refusal g d ≡ 0
   unfolding drafted
   planned-told n h = was_planned _ _ (change_refusal g d) h
 
@@ -204,7 +203,7 @@ module _ (v : Volume) (f : File) (c : RangeChange) (w : Fill) (p : Parts) (list 
             ∙ ap (λ (l : List ℕ). numbers (plan_of g d piece_limit l)) ones_all
 
         pub draft_planned : sector_sound v.sector ≡ true → change_refusal g d ≡ 0 → (m : Numbers) (e : NewExtents) (k : ℕ) → k ≡ anew → m ≡ numbers_of n k s w.size → e ≡ extents_of v c w p
-            → draft_said (items list) (draft.Plan (record { numbers = m; extents = e })) ≡ drafted g d piece_limit
+            → draft_said (items list) (Ok (record { numbers = m; extents = e })) ≡ drafted g d piece_limit
         draft_planned ok z m e k pk pm pe =
             ap₂ {C = Outcome Drafted} (λ (m : Numbers) (l : List Stretch). plan (record { numbers = m; extents = l }))
             (pm ∙ ap (λ (k : ℕ). numbers_of n k s w.size) pk ∙ numbers_are)

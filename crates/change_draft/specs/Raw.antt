@@ -1,5 +1,7 @@
--- For the code only: what the structs and the enum of this crate say, in the terms of the definitions.
-use Rattle.std.specs.Prelude.{Option, Some, None, List, ◌≡◌, ℕ, ◌+◌, ◌≤◌, ltb, length}
+-- For the code only: what the structs of this crate say, in the terms of the definitions.
+use Rattle.std.specs.Prelude.{Option, Some, None, Result, Ok, Err, List, ◌≡◌, ℕ, ◌+◌, ◌≤◌, ltb, length}
+use Rattle.records.specs.declared.refusal.Refusal.{Refusal}
+use Rattle.records.specs.Refusals.{number}
 use Rattle.item.specs.Items.{Fields, items}
 use Rattle.request.specs.declared.Volume.{Volume}
 use Rattle.request.specs.declared.File.{File}
@@ -20,13 +22,12 @@ use Rattle.change_rewrites.specs.Raw.{lent_ground}
 use Rattle.change_segment.specs.declared.Parts.{Parts}
 use Rattle.change_segment.specs.Sides.{front_new, back_new}
 use Rattle.change_lay.specs.declared.Counts.{Counts}
-use Rattle.change_draft.specs.declared.Draft.{Draft}
-use Rattle.change_draft.specs.declared.Draft.TheVariants as draft
+use Rattle.change_draft.specs.declared.Needs.{Needs}
 
--- each case of the enum, of a file with these items: what a plan needs, or the number of its refusal
-abbrev pub draft_said : List Fields → Draft → Outcome Drafted
-draft_said fs (draft.Plan n) = plan (record { numbers = n.numbers; extents = wishes n.extents fs })
-draft_said fs (draft.Refused n) = refused n
+-- a draft, of a file with these items: what a plan needs, or the number of its refusal
+abbrev pub draft_said : List Fields → Result Needs Refusal → Outcome Drafted
+draft_said fs (Ok n) = plan (record { numbers = n.numbers; extents = wishes n.extents fs })
+draft_said fs (Err r) = refused (number r)
 
 -- the stretch of a sector that takes a new extent; else an empty one
 abbrev pub side_of : (sector : ℕ) → Option Rewrite → Bounds

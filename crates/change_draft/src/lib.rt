@@ -21,6 +21,7 @@ use change_def::{Fill, RangeChange, Rewrite};
 use change_holes::{Bounds, NewExtents, Sums};
 use change_lay::Counts;
 use change_segment::Parts;
+use records::refusal::Refusal;
 use request::{File, Numbers, Volume};
 
 // What a plan needs: how many records in each output, and new extents.
@@ -28,13 +29,6 @@ use request::{File, Numbers, Volume};
 pub struct Needs {
     pub numbers: Numbers,
     pub extents: NewExtents,
-}
-
-// The first half: what a plan needs, or what refuses it, places and room aside.
-#[derive(Clone, Copy)]
-pub enum Draft {
-    Plan(Needs),
-    Refused(u8),
 }
 
 // The numbers of a plan that fills no hole, with no place taken.
@@ -133,7 +127,7 @@ fn numbers_of(n: Counts, sectors: usize, pieces: Sums, size: u64) -> Numbers
     }
 }
 
-// The first half of a plan.
+// The first half: what a plan needs, or what refuses it, places and room aside.
 pub fn draft_change(
     v: Volume,
     f: File,
@@ -143,18 +137,15 @@ pub fn draft_change(
     list: &[u8],
     shared: &[u8],
     table: &[u64],
-) -> Draft
+) -> Result<Needs, Refusal>
     requires { Asked v f c w list.now shared.now table.now × Parting (in_leaves (items list.now) shared.now) c p }
     ensures { draft_said (items list.now) result ≡ drafted (lent_ground v f list.now shared.now table.now) (filled_of c w (items list.now)) piece_limit }
 {
-    let why = change_refusals::change_refusal(v, f, c, p, list, shared, table);
-    if why != 0 {
-        return Draft::Refused(why);
-    }
+    change_refusals::change_refusal(v, f, c, p, list, shared, table)?;
     let n = count_plan(v, f, c, p, list, shared, table);
     let extents = extents_of(v, c, w, p);
     let pieces = change_holes::sum_holes(extents, list);
-    Draft::Plan(Needs {
+    Ok(Needs {
         numbers: numbers_of(n, sectors_anew(c, p), pieces, w.size),
         extents,
     })

@@ -1,5 +1,5 @@
 -- For the code only: what the second half of a plan rests on, and its refusals, in the terms of the definitions.
-use Rattle.std.specs.Prelude.{true, List, map, ◌≡◌, ℕ}
+use Rattle.std.specs.Prelude.{true, Ok, List, map, ◌≡◌, ℕ}
 use Rattle.item.specs.Items.{Fields, items}
 use Rattle.request.specs.declared.Volume.{Volume}
 use Rattle.request.specs.declared.File.{File}
@@ -21,7 +21,6 @@ use Rattle.change_rewrites.specs.Raw.{lent_ground}
 use Rattle.change_segment.specs.declared.Parts.{Parts}
 use Rattle.change_lay.specs.Laid.{Started}
 use Rattle.change_draft.specs.declared.Needs.{Needs}
-use Rattle.change_draft.specs.declared.Draft.TheVariants as draft
 use Rattle.change_draft.specs.Raw.{draft_said}
 
 -- one that nothing refuses but places and room, and what it needs
@@ -29,7 +28,7 @@ pub record Accepted (v : Volume) (f : File) (c : RangeChange) (w : Fill) (p : Pa
   pub fair : Fair (lent_ground v f list bytes table) (filled_of c w (items list))
   pub started : Started v f c p list bytes table
   pub none : change_refusal (lent_ground v f list bytes table) (filled_of c w (items list)) ≡ 0
-  pub needs : draft_said (items list) (draft.Plan n) ≡ drafted (lent_ground v f list bytes table) (filled_of c w (items list)) piece_limit
+  pub needs : draft_said (items list) (Ok n) ≡ drafted (lent_ground v f list bytes table) (filled_of c w (items list)) piece_limit
 
 -- refusals 26 and 27: of any plan with these numbers
 abbrev pub FinishWhy : Needs → List Fields → List Row → (places : List ℕ) → Rooms → ℕ → Type 0

@@ -17,7 +17,7 @@ ghost use Rattle.change_draft.specs.Raw.{Asked};
 ghost use Rattle.change_range.specs.Raw.{Accepted, FinishWhy};
 
 use change_def::{Fill, RangeChange};
-use change_draft::{Draft, Needs};
+use change_draft::Needs;
 use change_segment::Parts;
 use records::first;
 use request::{Answer, File, Volume};
@@ -180,8 +180,8 @@ pub fn change_range(
     let p = change_segment::parts_of(c, list, shared);
     let draft = change_draft::draft_change(v, f, c, w, p, list, shared, table);
     match draft {
-        Draft::Refused(why) => Answer::Refused(why),
-        Draft::Plan(n) => finish_change(
+        Err(refusal) => Answer::Refused(refusal.number()),
+        Ok(n) => finish_change(
             v, f, c, w, p, n, list, shared, table, places, edits, shares, unrefs, releases, adds,
             writes,
         ),

@@ -50,10 +50,6 @@ pub one-stage : {A : Type 0} (t : A → ℕ) (a : Option A) (x : A) → a ≡ So
 unfolding stage
 one-stage t a x e = rw e (sym (first_last (t x)))
 
-pub no-stage : {A : Type 0} (t : A → ℕ) (a : Option A) → a ≡ None → 0 ≡ stage t (option_to_list a)
-unfolding stage
-no-stage t a e = rw e refl
-
 -- ---- shares, read from their lines
 
 module _ (v : Volume) (c : RangeChange) (p : Parts) (list : List ℕ) (s : Segment) (seg : List ℕ) (m : Made (joined_pieces v c p (items list)) c.lo c.hi 4 list s seg) (k : Cut) where
@@ -98,25 +94,18 @@ module _ (v : Volume) (f : File) (c : RangeChange) (p : Parts) (list shared tabl
   unfolding change_refusal first_of first
   change_last e = rw e refl
 
-  module _ (part : Parting (in_leaves (items list) shared) c p) (l : length shared ≡ length (items list)) where
-    -- and all others, in their order
-    pub change-told :
-        (k : Cut) (x y z w b d r : ℕ)
-        → k ≡ cut_of c p
-        → (v.generation ≡ 18446744073709551615 → ⊥)
-        → x ≡ stage (λ (q : Ref). one_more_reference q.start (rows table)) (map ref_of (keep (split c.lo c.hi) (items list)))
-        → y ≡ stage (rewrite_refusal g) ch.rewrites
-        → z ≡ stage (λ (q : Ref). one_more_reference q.start (rows table)) (shares_compared g ch)
-        → w ≡ drops_refusal (rows table) (drops_in k (items list) shared)
-        → b ≡ first z w
-        → d ≡ first y b
-        → r ≡ first x d
-        → r ≡ change_refusal g ch
-    unfolding change_refusal first_of
-    change-told k x y z w b d r ek n ex ey ez ew eb ed er =
-        let more : List Ref → ℕ = stage (λ (q : Ref). one_more_reference q.start (rows table)) in
-        let splits : x ≡ more (map ref_of (keep (split c.lo c.hi) (leaf_items g.in_leaves))) = ex ∙ ap (λ (fs : List Fields). more (map ref_of (keep (split c.lo c.hi) fs))) (sym (leaves-items (items list) shared l)) in
-        let last : w ≡ first (drops_refusal (rows table) (drops g ch)) 0 = ew ∙ ap (drops_refusal (rows table)) (ap (λ (k : Cut). drops_in k (items list) shared) ek ∙ sym (drops_same v f c p (items list) shared (rows table) part)) ∙ sym (first_last _) in
-        er
-        ∙ ap₂ first splits (ed ∙ ap₂ first ey (eb ∙ ap₂ first ez last))
-        ∙ sym (first_go _ _ (ap (λ (t : Bool). whenever t 13) (ne_eqb v.generation 18446744073709551615 n)))
+  -- and all others, in their order
+  pub change-stages :
+      Parting (in_leaves (items list) shared) c p → length shared ≡ length (items list) → (v.generation ≡ 18446744073709551615 → ⊥)
+      → first (stage (λ (q : Ref). one_more_reference q.start (rows table)) (map ref_of (keep (split c.lo c.hi) (items list))))
+      (first (stage (rewrite_refusal g) ch.rewrites)
+      (first (stage (λ (q : Ref). one_more_reference q.start (rows table)) (shares_compared g ch))
+      (drops_refusal (rows table) (drops_in (cut_of c p) (items list) shared))))
+      ≡ change_refusal g ch
+  unfolding change_refusal first_of
+  change-stages part l n =
+      let more : List Ref → ℕ = stage (λ (q : Ref). one_more_reference q.start (rows table)) in
+      let splits : more (map ref_of (keep (split c.lo c.hi) (items list))) ≡ more (map ref_of (keep (split c.lo c.hi) (leaf_items g.in_leaves))) = ap (λ (fs : List Fields). more (map ref_of (keep (split c.lo c.hi) fs))) (sym (leaves-items (items list) shared l)) in
+      let last : drops_refusal (rows table) (drops_in (cut_of c p) (items list) shared) ≡ first (drops_refusal (rows table) (drops g ch)) 0 = ap (drops_refusal (rows table)) (sym (drops_same v f c p (items list) shared (rows table) part)) ∙ sym (first_last _) in
+      ap₂ first splits (ap (λ (n : ℕ). first (stage (rewrite_refusal g) ch.rewrites) (first (more (shares_compared g ch)) n)) last)
+      ∙ sym (first_go _ _ (ap (λ (t : Bool). whenever t 13) (ne_eqb v.generation 18446744073709551615 n)))

@@ -1,7 +1,8 @@
 // All refusals of a change from 13 on, but for those of places and of room, with no place taken.
-#![tactic(auto)]
+#![tactic(auto, unfolding(records::specs::Stages::first, records::specs::Stages::stage))]
 
 ghost use Rattle.std.specs.Prelude.{true, List, ◌≡◌, ℕ, length, option_to_list};
+ghost use Rattle.records.specs.Refusals.{why};
 ghost use Rattle.records.specs.Stages.{stage};
 ghost use Rattle.item.specs.Items.{items};
 ghost use Rattle.table.specs.Rows.{rows, table_kept, one_more_reference};
@@ -18,7 +19,7 @@ ghost use Rattle.change_refusals.specs.Begun.{Begun};
 
 use change_def::{RangeChange, Rewrite};
 use change_segment::Parts;
-use records::{first, refusal};
+use records::refusal::Refusal;
 use request::{File, Volume};
 
 // Refusals 16, 14, 17 and 18 of a sector, if it is rewritten.
@@ -29,16 +30,14 @@ fn rewrite_if(
     list: &[u8],
     shared: &[u8],
     table: &[u64],
-) -> u8
+) -> Result<(), Refusal>
     requires { Sound (lent_ground v f list.now shared.now table.now) × (length shared.now ≡ length (items list.now)) }
-    ensures { result ≡ stage (rewrite_refusal (lent_ground v f list.now shared.now table.now)) (option_to_list r) }
+    ensures { why result ≡ stage (rewrite_refusal (lent_ground v f list.now shared.now table.now)) (option_to_list r) }
 {
-    let Some(r) = r else {
-        return 0;
-    };
-    records::refusal::number_of(change_rewrites::rewrite_refusal(
-        v, f, r, list, shared, table,
-    ))
+    match r {
+        Some(r) => change_rewrites::rewrite_refusal(v, f, r, list, shared, table),
+        None => Ok(()),
+    }
 }
 
 // Those of a change's sectors, the front one first.
@@ -49,21 +48,26 @@ pub fn rewrites_refusal(
     list: &[u8],
     shared: &[u8],
     table: &[u64],
-) -> u8
+) -> Result<(), Refusal>
     requires { Sound (lent_ground v f list.now shared.now table.now) × (length shared.now ≡ length (items list.now)) }
-    ensures { result ≡ stage (rewrite_refusal (lent_ground v f list.now shared.now table.now)) (change_of c f.size).rewrites }
+    ensures { why result ≡ stage (rewrite_refusal (lent_ground v f list.now shared.now table.now)) (change_of c f.size).rewrites }
 {
-    let front = rewrite_if(v, f, c.front, list, shared, table);
-    let back = rewrite_if(v, f, c.back, list, shared, table);
-    first(front, back)
+    rewrite_if(v, f, c.front, list, shared, table)?;
+    rewrite_if(v, f, c.back, list, shared, table)
 }
 
 // Refusals 14 and 15 of the shares after the joins: of the references of extents written in place that there are more of
 // after the change than before. They are at most 4, as the items that are made.
-pub fn shares_refusal(v: Volume, c: RangeChange, p: Parts, list: &[u8], table: &[u64]) -> u8
+pub fn shares_refusal(
+    v: Volume,
+    c: RangeChange,
+    p: Parts,
+    list: &[u8],
+    table: &[u64],
+) -> Result<(), Refusal>
     requires { Ready v c p list.now × (table_kept (rows table.now) ≡ true) }
     ensures { (f : File) (shared : List ℕ) → Parting (in_leaves (items list.now) shared) c p → length shared ≡ length (items list.now)
-        → result ≡ stage (λ (q : Ref). one_more_reference q.start (rows table.now)) (shares_compared (lent_ground v f list.now shared table.now) (change_of c f.size)) }
+        → why result ≡ stage (λ (q : Ref). one_more_reference q.start (rows table.now)) (shares_compared (lent_ground v f list.now shared table.now) (change_of c f.size)) }
 {
     let mut seg = [0u8; 280];
     let mut lines = [0u64; 8];
@@ -83,20 +87,15 @@ pub fn change_refusal(
     list: &[u8],
     shared: &[u8],
     table: &[u64],
-) -> u8
+) -> Result<(), Refusal>
     requires { Begun v f c p list.now shared.now table.now }
-    ensures { result ≡ change_refusal (lent_ground v f list.now shared.now table.now) (change_of c f.size) }
+    ensures { why result ≡ change_refusal (lent_ground v f list.now shared.now table.now) (change_of c f.size) }
 {
     if v.generation == 18446744073709551615 {
-        return refusal::GENERATION;
+        return Err(Refusal::Generation);
     }
-    let split = records::refusal::number_of(cut_touched::splits_refusal(list, table, c.lo, c.hi));
-    let rewrite = rewrites_refusal(v, f, c, list, shared, table);
-    let share = shares_refusal(v, c, p, list, table);
-    let drop = records::refusal::number_of(cut_touched::drops_refusal(
-        change_lines::cut_of(c, p),
-        list,
-        table,
-    ));
-    first(split, first(rewrite, first(share, drop)))
+    cut_touched::splits_refusal(list, table, c.lo, c.hi)?;
+    rewrites_refusal(v, f, c, list, shared, table)?;
+    shares_refusal(v, c, p, list, table)?;
+    cut_touched::drops_refusal(change_lines::cut_of(c, p), list, table)
 }

@@ -25,22 +25,7 @@ use Rattle.fallocate_def.specs.Fallocate.{end_rewritten, end_sector, end_stop, n
 use Rattle.fallocate.specs.Raw.{end_change, fill_of}
 use Rattle.fallocate.proofs.Sweep.{holes_swept}
 
--- ---- the structs
-
-pub end_is :
-    (size s stop d lo hi : ℕ) (b : Bool) (front : Option Rewrite)
-    → b ≡ end_rewritten s size stop → d ≡ round_down s size → lo ≡ cond b d 0 → hi ≡ cond b (d + s) 0
-    → front ≡ then_some b (record { sector = d; first = size; end = d + s })
-    → ◌≡◌ {A = RangeChange} (record { lo = lo; hi = hi; front = front; back = None }) (end_change size s stop)
-end_is size s stop d lo hi b front pb pd pl ph pf = rw (pl, ph, pf, pb, pd) refl
-
-pub fill_is :
-    (keep : Bool) (size s offset stop a b m n : ℕ)
-    → a ≡ round_down s offset → b ≡ round_up s stop → m ≡ max size stop → n ≡ cond keep size m
-    → ◌≡◌ {A = Fill} (record { from = a; to = b; size = n }) (fill_of keep size s offset stop)
-fill_is keep size s offset stop a b m n pa pb pm pn = rw (pn, pm, pa, pb) refl
-
--- they are the change that a fallocate makes
+-- the structs of the code are the change that a fallocate makes
 pub filled_is : (keep : Bool) (size sector offset stop : ℕ) → 0 < sector → offset < stop → (fs : List Fields) → Runs 0 fs
     → filled_of (end_change size sector stop) (fill_of keep size sector offset stop) fs ≡ fallocate_change keep fs size sector offset stop
 filled_is keep size sector offset stop pos some fs r =
@@ -59,24 +44,3 @@ filled_is keep size sector offset stop pos some fs r =
 
     with : List Rewrite → List Stretch → Change
     with ws hs = record { lo = end_sector size sector stop; hi = end_stop size sector stop; rewrites = ws; holes = hs; size = new_size keep size stop }
-
--- ---- 10 and 11
-
-module _ (size lo hi : ℕ) (f : Fields) (l : ℕ) (p t : Bool) (pl : l ≡ f.length) (pp : p ≡ ltb lo (f.key + l)) (pt : t ≡ (p && ltb f.key hi)) where
-  meets : t ≡ (ltb lo (end f) && ltb f.key hi)
-  meets = rw (pt, pp, pl) refl
-
-  pub item-meets :
-      (x y h k : ℕ) (b d : Bool)
-      → t ≡ true → b ≡ hole f → h ≡ whenever b 10 → k ≡ f.kind → d ≡ (eqb k 1 && leb size f.key) → y ≡ whenever d 11 → x ≡ first h y
-      → x ≡ item_refusal size lo hi f
-  item-meets x y h k b d e pb ph pk pd py px = rw (px, ph, py, pb, pd, pk) (cond_yes t (ltb lo (end f) && ltb f.key hi) _ 0 meets e)
-
-  pub item_aside : t ≡ false → 0 ≡ item_refusal size lo hi f
-  item_aside e = cond_no t (ltb lo (end f) && ltb f.key hi) _ 0 meets e
-
--- the loop over the items starts with the range rounded
-pub items-start :
-    (size s offset stop lo hi : ℕ) (list : List ℕ) → lo ≡ round_down s offset → hi ≡ round_up s stop
-    → stage (item_refusal size lo hi) (rest decode 70 list (length list / 70) 0) ≡ stage (item_refusal size (round_down s offset) (round_up s stop)) (items list)
-items-start size s offset stop lo hi list p q = rw (p, q, rest-items) refl

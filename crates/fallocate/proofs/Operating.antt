@@ -52,9 +52,9 @@ module _ (v : Volume) (f : File) (r : Range) (keep : Bool) (list shared table : 
   asked = fallocate_change keep (items list) f.size v.sector r.offset stop
 
   -- nothing refuses it
-  module _ (why : ℕ) (told : why ≡ refusal_lent v f r list shared table) (none : why ≡ 0) where
+  module _ (none : refusal_lent v f r list shared table ≡ 0) where
     range : range_lent v f r list shared table ≡ 0
-    range = range_passed v f r list shared table (sym told ∙ none)
+    range = range_passed v f r list shared table none
 
     pub fits : Fit v f r list shared table
     fits = fit v f r list shared table range
@@ -97,9 +97,9 @@ module _ (v : Volume) (f : File) (r : Range) (keep : Bool) (list shared table : 
     fallocate-refused why e z = whole ∙ rw (← e) (refuses why rest z)
 
     pub fallocate-changed :
-        (why : ℕ) (told : why ≡ refusal_lent v f r list shared table) (none : why ≡ 0) (c : RangeChange) (w : Fill) → c ≡ end_change f.size v.sector stop → w ≡ fill_of keep f.size v.sector r.offset stop
+        (none : refusal_lent v f r list shared table ≡ 0) (c : RangeChange) (w : Fill) → c ≡ end_change f.size v.sector stop → w ≡ fill_of keep f.size v.sector r.offset stop
         → fallocate_lent v f r keep list shared table places rooms ≡ changed (ground_of v f (items list) shared (rows table)) (filled_of c w (items list)) piece_limit places rooms
-    fallocate-changed why told none c w pc pw = whole ∙ passes _ rest (sym told ∙ none) ∙ rw (filled why told none c w pc pw) refl
+    fallocate-changed none c w pc pw = whole ∙ passes _ rest none ∙ rw (filled none c w pc pw) refl
 
     -- there is never "nothing to do": a plan, or a refusal
     pub never_nothing : fallocate_lent v f r keep list shared table places rooms ≡ nothing → ⊥

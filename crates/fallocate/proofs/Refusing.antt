@@ -82,26 +82,10 @@ module _ (v : Volume) (f : File) (r : Range) (list shared table : List ℕ) wher
   abbrev sum : ℕ
   sum = sum_of (holes_to_allocate f.size v.sector r.offset stop (items list))
 
-  in_turn : refusal_lent v f r list shared table ≡ first (range_lent v f r list shared table) (first per_item (unless (leb sum v.total) 12))
+  pub in_turn : refusal_lent v f r list shared table ≡ first (range_lent v f r list shared table) (first per_item (unless (leb sum v.total) 12))
   unfolding fallocate_refusal first_of
   in_turn = rw first_last (sym (first_assoc (first (list_broken list) (table_broken table)) (range_refusal v f r (items list) shared (rows table)) _))
 
   -- what passes all passes 1 to 9
   pub range_passed : refusal_lent v f r list shared table ≡ 0 → range_lent v f r list shared table ≡ 0
   range_passed h = (first-zero (range_lent v f r list shared table) (first per_item (unless (leb sum v.total) 12)) (sym in_turn ∙ h)).0
-
-  module _ (why : ℕ) (p : why ≡ range_lent v f r list shared table) where
-    pub refused-range : (why ≡ 0 → ⊥) → why ≡ refusal_lent v f r list shared table
-    refused-range n =
-        let rest : ℕ = first per_item (unless (leb sum v.total) 12) in
-        first_stop why rest n ∙ ap (λ (x : ℕ). first x rest) p ∙ sym in_turn
-
-    module _ (z : why ≡ 0) (x : ℕ) (q : x ≡ per_item) where
-      past-range : refusal_lent v f r list shared table ≡ first x (unless (leb sum v.total) 12)
-      past-range = in_turn ∙ first_go _ _ (sym p ∙ z) ∙ rw q refl
-
-      pub refused-item : (x ≡ 0 → ⊥) → x ≡ refusal_lent v f r list shared table
-      refused-item n = first_stop x _ n ∙ sym past-range
-
-      pub refused_sum : x ≡ 0 → (s y : ℕ) → s ≡ sum → y ≡ unless (leb s v.total) 12 → y ≡ refusal_lent v f r list shared table
-      refused_sum o s y ps py = py ∙ rw ps (sym (past-range ∙ first_go x _ o))

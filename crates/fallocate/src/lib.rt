@@ -1,10 +1,11 @@
 // A fallocate: what it refuses before any change (`fallocate_refusal`); what it asks of `change_range`, the sector of the
 // old end to cut and rewrite (`end_change`) and the stretch of the file whose holes are filled (`fill_of`); and the
 // operation, `fallocate`.
-#![tactic(auto)]
+#![tactic(auto, unfolding(records::specs::Stages::first, records::specs::Stages::stage))]
 
 ghost use Rattle.change_def.specs.Preallocs.{sum_of};
 ghost use Rattle.std.specs.Prelude.{true, ◌≡◌, ◌<◌, ◌^◌};
+ghost use Rattle.records.specs.Refusals.{why};
 ghost use Rattle.records.specs.Stages.{stage};
 ghost use Rattle.item.specs.Items.{fields, items};
 ghost use Rattle.request.specs.Lent.{sector_sound};
@@ -17,7 +18,8 @@ ghost use Rattle.fallocate.specs.Raw.{end_change, fill_of, refusal_lent};
 use change_def::{Fill, RangeChange, Rewrite};
 use change_holes::{Bounds, NewExtents};
 use item::Item;
-use records::{both, first, pick, refusal, sum_past, unless, whenever};
+use records::refusal::{Refusal, check};
+use records::sum_past;
 use request::{Answer, File, Range, Volume};
 
 // ---- what is asked of a change
@@ -27,7 +29,7 @@ fn end_rewritten(sector: u64, size: u64, stop: u64) -> bool
     requires { 0 < sector }
     ensures { result ≡ end_rewritten sector size stop }
 {
-    both(size < stop, size % sector != 0)
+    size < stop && size % sector != 0
 }
 
 // The old end's sector, to cut and rewrite with zeros from the size on, if it has to be.
@@ -35,13 +37,20 @@ fn end_change(size: u64, sector: u64, stop: u64) -> RangeChange
     requires { (sector_sound sector ≡ true) × (size < 2 ^ 63) }
     ensures { result ≡ end_change size sector stop }
 {
-    let rewritten = end_rewritten(sector, size, stop);
+    if !end_rewritten(sector, size, stop) {
+        return RangeChange {
+            lo: 0,
+            hi: 0,
+            front: None,
+            back: None,
+        };
+    }
     let start = change_def::round_down(sector, size);
     let end = start + sector;
     RangeChange {
-        lo: pick(rewritten, start, 0),
-        hi: pick(rewritten, end, 0),
-        front: rewritten.then_some(Rewrite {
+        lo: start,
+        hi: end,
+        front: Some(Rewrite {
             sector: start,
             first: size,
             end,
@@ -58,39 +67,41 @@ fn fill_of(keep: bool, size: u64, sector: u64, offset: u64, stop: u64) -> Fill
     Fill {
         from: change_def::round_down(sector, offset),
         to: change_def::round_up(sector, stop),
-        size: pick(keep, size, records::larger(size, stop)),
+        size: if keep { size } else { size.max(stop) },
     }
 }
 
 // ---- refusals
 
 // Refusals 10 and 11 of an item, if it meets the rounded range [from, to).
-fn item_refusal(size: u64, from: u64, to: u64, item: Item) -> u8
-    ensures { result ≡ item_refusal size from to (fields item) }
+fn item_refusal(size: u64, from: u64, to: u64, item: Item) -> Result<(), Refusal>
+    ensures { why result ≡ item_refusal size from to (fields item) }
 {
-    if both(sum_past(item.key, item.length(), from), item.key < to) {
-        let hole = whenever(cut_def::is_hole(item), refusal::HOLE);
-        let past = both(item.kind() == 1, size <= item.key);
-        first(hole, whenever(past, refusal::PAST_SIZE))
-    } else {
-        0
+    if sum_past(item.key, item.length(), from) && item.key < to {
+        let past = item.kind() == 1 && size <= item.key;
+        check(!cut_def::is_hole(item), Refusal::Hole)?;
+        check(!past, Refusal::PastSize)?;
     }
+    Ok(())
 }
 
 // Refusals 10 and 11, item by item.
-fn items_refusal(size: u64, sector: u64, offset: u64, stop: u64, list: &[u8]) -> u8
+fn items_refusal(
+    size: u64,
+    sector: u64,
+    offset: u64,
+    stop: u64,
+    list: &[u8],
+) -> Result<(), Refusal>
     requires { (sector_sound sector ≡ true) × (stop < 2 ^ 63) }
-    ensures { result ≡ stage (item_refusal size (round_down sector offset) (round_up sector stop)) (items list.now) }
+    ensures { why result ≡ stage (item_refusal size (round_down sector offset) (round_up sector stop)) (items list.now) }
 {
     let from = change_def::round_down(sector, offset);
     let to = change_def::round_up(sector, stop);
-    for i in 0..list.len() / item::RECORD {
-        let why = item_refusal(size, from, to, item::item_at(list, i));
-        if why != 0 {
-            return why;
-        }
+    for item in item::items(list) {
+        item_refusal(size, from, to, item)?;
     }
-    0
+    Ok(())
 }
 
 // The bytes of the holes that are filled.
@@ -114,20 +125,21 @@ fn hole_bytes(size: u64, sector: u64, offset: u64, stop: u64, list: &[u8]) -> u6
 }
 
 // Refusals 1 to 12: as a punch up to 9, then item by item 10 and 11, then 12, holes over the volume's bytes.
-fn fallocate_refusal(v: Volume, f: File, r: Range, list: &[u8], shared: &[u8], table: &[u64]) -> u8
-    ensures { result ≡ refusal_lent v f r list.now shared.now table.now }
+fn fallocate_refusal(
+    v: Volume,
+    f: File,
+    r: Range,
+    list: &[u8],
+    shared: &[u8],
+    table: &[u64],
+) -> Result<(), Refusal>
+    ensures { why result ≡ refusal_lent v f r list.now shared.now table.now }
 {
-    let broken = punch::range_refusal(v, f, r, list, shared, table);
-    if broken != 0 {
-        return broken;
-    }
+    punch::range_refusal(v, f, r, list, shared, table)?;
     let stop = r.offset + r.length;
-    let why = items_refusal(f.size, v.sector, r.offset, stop, list);
-    if why != 0 {
-        return why;
-    }
+    items_refusal(f.size, v.sector, r.offset, stop, list)?;
     let bytes = hole_bytes(f.size, v.sector, r.offset, stop, list);
-    unless(bytes <= v.total, refusal::NO_SPACE)
+    check(bytes <= v.total, Refusal::NoSpace)
 }
 
 // ---- the operation
@@ -152,9 +164,8 @@ pub fn fallocate(
 ) -> Answer
     ensures { Met f.number (fallocate_lent v f r keep list.now shared.now table.now places.now) result (six edits shares unrefs releases adds writes) }
 {
-    let why = fallocate_refusal(v, f, r, list, shared, table);
-    if why != 0 {
-        return Answer::Refused(why);
+    if let Err(refusal) = fallocate_refusal(v, f, r, list, shared, table) {
+        return Answer::Refused(refusal.number());
     }
     let stop = r.offset + r.length;
     change_range::change_range(

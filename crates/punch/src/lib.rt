@@ -156,8 +156,8 @@ pub fn range_refusal(
     ensures { why result ≡ range_lent v f r list.now shared.now table.now }
 {
     request::lent_refusal(v, f, list, shared, table)?;
-    check(r.length != 0, Refusal::Empty)?;
     let stop = r.offset.checked_add(r.length);
+    check(r.length != 0, Refusal::Empty)?;
     check(stop.is_some_and(|stop| stop < 9223372036854775808), Refusal::TooFar)?;
     lists::records_refusal(list)
 }

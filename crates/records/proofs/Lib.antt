@@ -5,3 +5,4 @@ pub mod Picks
 pub mod Counts
 pub mod Wholes
 pub mod Chunks
+pub mod Refusals

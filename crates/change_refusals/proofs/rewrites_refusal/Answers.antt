@@ -1,9 +1,14 @@
-use Rattle.change_rewrites.specs.Raw.{lent_ground}
-use Rattle.change_def.specs.Rewrites.{rewrite_refusal}
-use Rattle.change_refusals.proofs.Refusing.{sides-stage}
+use Rattle.std.proofs.Common.{rules}
 use Rattle.records.specs.Stages.{first}
-use mathlib.Core.Path.{◌∙◌, ap₂}
+use Rattle.change_def.specs.Rewrites.{rewrite_refusal}
+use Rattle.change_rewrites.specs.Raw.{lent_ground}
+use Rattle.change_refusals.proofs.Refusing.{sides-stage}
 use Rattle.change_refusals.proofs.rewrites_refusal.Goals as goal
 
+pub returns-in_err-rewrite_if : goal.returns-in_err-rewrite_if
+unfolding first
+returns-in_err-rewrite_if c = let a = c.args in rw (← sides-stage (rewrite_refusal (lent_ground a.v a.f a.list.now a.shared.now a.table.now)) a.c.front a.c.back) (search rules)
+
 pub returns : goal.returns
-returns c = let a = c.args in c.first.ensures ∙ ap₂ first c.rewrite_if-front.ensures c.rewrite_if-back.ensures ∙ sides-stage (rewrite_refusal (lent_ground a.v a.f a.list.now a.shared.now a.table.now)) a.c.front a.c.back
+unfolding first
+returns c = let a = c.args in rw (← sides-stage (rewrite_refusal (lent_ground a.v a.f a.list.now a.shared.now a.table.now)) a.c.front a.c.back) (search rules)
