@@ -9,7 +9,7 @@ use lib.ListN.{length, get_or, take, drop, replicate, length-map, length-append,
 use Rattle.std.specs.Prelude.{Option, Some, None}
 use Rattle.records.specs.Stages.{unless, first, first_of}
 use Rattle.records.proofs.Lists.{every_true}
-use Rattle.records.proofs.Tests.{first-zero, unless-zero, first_last}
+use Rattle.records.proofs.Tests.{first-zero, unless-zero, first_last, first_stop, first_go}
 use Rattle.item.specs.Items.{Fields, items}
 use Rattle.table.specs.declared.Row.{Row}
 use Rattle.table.specs.Rows.{rows}
@@ -96,17 +96,14 @@ plan-is d e h = cc
 -- ---- the second half
 
 -- what the code's two refusals come to
-pub why-told :
-    (n : Needs) (fs : List Fields) (rows : List Row) (ps : List ℕ) (rooms : Rooms) (a b why : ℕ)
-    → a ≡ unless (places_sound rows ps (map wanted_of (wishes n.extents fs))) 26
-    → ((q : Plan) → numbers q ≡ n.numbers → b ≡ unless (room_for rooms q) 27)
-    → why ≡ first a b
-    → FinishWhy n fs rows ps rooms why
-why-told n fs rows ps rooms a b why pa pb pw q h = pw ∙ go (places_sound rows ps (map wanted_of (wishes n.extents fs))) refl
-  where
-    go : (s : Bool) → places_sound rows ps (map wanted_of (wishes n.extents fs)) ≡ s → first a b ≡ first (unless (places_sound rows ps (map wanted_of (wishes n.extents fs))) 26) (unless (room_for rooms q) 27)
-    go true e = rw (pa, pb q (h e)) refl
-    go false e = rw (pa, e) (unfold first in refl)
+module _ (n : Needs) (fs : List Fields) (rows : List Row) (ps : List ℕ) (rooms : Rooms) where
+  -- the places are not as wanted,
+  pub why-placed : (a : ℕ) → a ≡ unless (places_sound rows ps (map wanted_of (wishes n.extents fs))) 26 → (a ≡ 0 → ⊥) → FinishWhy n fs rows ps rooms a
+  why-placed a pa z = λ q h. rw pa at (first_stop a (unless (room_for rooms q) 27) z)
+
+  -- or they are
+  pub why-roomed : 0 ≡ unless (places_sound rows ps (map wanted_of (wishes n.extents fs))) 26 → (b : ℕ) → ((q : Plan) → numbers q ≡ n.numbers → b ≡ unless (room_for rooms q) 27) → FinishWhy n fs rows ps rooms b
+  why-roomed pa b pb = λ q h. pb q (h (unless-zero (places_sound rows ps (map wanted_of (wishes n.extents fs))) 26 (sym pa) (λ e. omega arith))) ∙ sym (first_go _ _ (sym pa))
 
 module _ (v : Volume) (f : File) (c : RangeChange) (w : Fill) (p : Parts) (n : Needs) (list shared table ps : List ℕ) (ac : Accepted v f c w p n list shared table) where
   abbrev g' : Ground

@@ -3,6 +3,7 @@
 
 ghost use Rattle.std.specs.Prelude.{true, ◌≡◌, length, get_or};
 ghost use Rattle.records.specs.Lent.{old};
+ghost use Rattle.records.specs.Refusals.{why};
 ghost use Rattle.item.specs.Items.{items};
 ghost use Rattle.table.specs.Rows.{rows, table_kept};
 ghost use Rattle.plan_def.specs.Places.{places_sound};
@@ -19,14 +20,14 @@ ghost use Rattle.change_range.specs.Raw.{Accepted, FinishWhy};
 use change_def::{Fill, RangeChange};
 use change_draft::Needs;
 use change_segment::Parts;
-use records::first;
+use records::refusal::Refusal;
 use request::{Answer, File, Volume};
 
 // The nth place; 0 past the last.
 fn place_at(places: &[u64], n: usize) -> u64
     ensures { result ≡ get_or places.now n 0 }
 {
-    if n < places.len() { places[n] } else { 0 }
+    places.get(n).copied().unwrap_or(0)
 }
 
 // Refusals 26 and 27 of a plan that needs this much; the last six are the lengths of the outputs.
@@ -41,23 +42,13 @@ fn finish_refusal(
     releases: usize,
     adds: usize,
     writes: usize,
-) -> u8
+) -> Result<(), Refusal>
     requires { Ends (items list.now) × (table_kept (rows table.now) ≡ true) × (length (wishes n.extents (items list.now)) ≡ n.numbers.adds) }
-    ensures { FinishWhy n (items list.now) (rows table.now) places.now (record { edits = edits; shares = shares; unrefs = unrefs; releases = releases; adds = adds; writes = writes }) result }
+    ensures { FinishWhy n (items list.now) (rows table.now) places.now (record { edits = edits; shares = shares; unrefs = unrefs; releases = releases; adds = adds; writes = writes }) (why result) }
 {
     let numbers = n.numbers;
-    first(
-        records::refusal::number_of(change_places::places_refusal(
-            n.extents,
-            numbers.adds,
-            list,
-            table,
-            places,
-        )),
-        records::refusal::number_of(plan_places::room_refusal(
-            n.numbers, edits, shares, unrefs, releases, adds, writes,
-        )),
-    )
+    change_places::places_refusal(n.extents, numbers.adds, list, table, places)?;
+    plan_places::room_refusal(numbers, edits, shares, unrefs, releases, adds, writes)
 }
 
 // The plan in the outputs, where all suffices: the adds first, from which the edits take the pieces of holes.
@@ -145,8 +136,8 @@ fn finish_change(
         adds.len(),
         writes.len(),
     );
-    if short != 0 {
-        return Answer::Refused(short);
+    if let Err(refusal) = short {
+        return Answer::Refused(refusal.number());
     }
     let numbers = n.numbers;
     write_plan(
