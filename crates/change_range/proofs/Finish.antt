@@ -1,6 +1,6 @@
 -- The second half of a plan: places, room, and the outputs. Assumes nothing.
 use mathlib.Core.Path.{◌≡◌, refl, ap, ◌∙◌, sym}
-use mathlib.Core.Bool.{Bool, true, false}
+use mathlib.Core.Bool.{Bool, true}
 use mathlib.Core.List.{List, [], ◌∷◌, ◌++◌, map, flat_map}
 use Prim.Native.Nat.{ℕ, zero, suc, ◌+◌, ◌-◌, ◌*◌, ◌/◌, ◌≤◌}
 use native.Mathlib.Omega.{arith}
@@ -99,7 +99,7 @@ plan-is d e h = cc
 module _ (n : Needs) (fs : List Fields) (rows : List Row) (ps : List ℕ) (rooms : Rooms) where
   -- the places are not as wanted,
   pub why-placed : (a : ℕ) → a ≡ unless (places_sound rows ps (map wanted_of (wishes n.extents fs))) 26 → (a ≡ 0 → ⊥) → FinishWhy n fs rows ps rooms a
-  why-placed a pa z = λ q h. rw pa at (first_stop a (unless (room_for rooms q) 27) z)
+  why-placed a pa z = λ q h. first_stop a (unless (room_for rooms q) 27) z ∙ ap (λ (x : ℕ). first x (unless (room_for rooms q) 27)) pa
 
   -- or they are
   pub why-roomed : 0 ≡ unless (places_sound rows ps (map wanted_of (wishes n.extents fs))) 26 → (b : ℕ) → ((q : Plan) → numbers q ≡ n.numbers → b ≡ unless (room_for rooms q) 27) → FinishWhy n fs rows ps rooms b

@@ -75,7 +75,7 @@ pub fn shares_refusal(
     let s = change_segment::joined_segment(v, c, p, list, &mut seg);
     let n = change_lines::put_more(k, list, &seg, s, &mut lines, 0);
     let end = n * 2;
-    records::refusal::number_of(ref_compare::lines_refusal(&lines[0..end], table))
+    ref_compare::lines_refusal(&lines[0..end], table)
 }
 
 // All, in the order of the definition.

@@ -1,27 +1,19 @@
 -- What the code refuses, and asks of a change, is what the definitions say. Assumes nothing.
 use mathlib.Core.Path.{◌≡◌, refl, ap, ◌∙◌, sym}
-use mathlib.Core.Bool.{Bool, true, false, cond, ◌&&◌}
+use mathlib.Core.Bool.{Bool, true, false}
 use mathlib.Core.List.{List, [], ◌++◌, append-nil}
-use Prim.Native.Nat.{ℕ, ◌+◌, ◌/◌, ◌<◌, max}
-use lib.Dec.{eqb, leb, ltb}
-use lib.ListN.{length}
-use Rattle.std.specs.Prelude.{Option, None, option_to_list}
+use Prim.Native.Nat.{ℕ, ◌+◌, ◌<◌}
+use Rattle.std.specs.Prelude.{option_to_list}
 use Rattle.std.specs.Bool.{then_some}
 use Rattle.records.specs.Select.{only}
-use Rattle.records.specs.Stages.{whenever, first, stage}
-use Rattle.records.proofs.Loops.{rest}
-use Rattle.records.proofs.Tests.{cond_yes, cond_no}
-use Rattle.item.specs.Items.{Fields, items, decode, hole, end}
-use Rattle.item.proofs.Laws.{rest-items}
+use Rattle.item.specs.Items.{Fields}
 use Rattle.cut_segment.specs.Segments.{Runs}
-use Rattle.change_def.specs.Rounding.{round_down, round_up}
+use Rattle.change_def.specs.Rounding.{round_down}
 use Rattle.change_def.specs.Preallocs.{Stretch}
 use Rattle.change_def.specs.declared.Rewrite.{Rewrite}
-use Rattle.change_def.specs.declared.RangeChange.{RangeChange}
-use Rattle.change_def.specs.declared.Fill.{Fill}
 use Rattle.change_def.specs.Changes.{Change}
 use Rattle.change_def.specs.Sweep.{filled_of}
-use Rattle.fallocate_def.specs.Fallocate.{end_rewritten, end_sector, end_stop, new_size, item_refusal, fallocate_change}
+use Rattle.fallocate_def.specs.Fallocate.{end_rewritten, end_sector, end_stop, new_size, fallocate_change}
 use Rattle.fallocate.specs.Raw.{end_change, fill_of}
 use Rattle.fallocate.proofs.Sweep.{holes_swept}
 

@@ -1,5 +1,5 @@
 -- The refusals of a fallocate as the code takes them, and what the sum of its holes may be asked on. Assumes nothing.
-use mathlib.Core.Path.{◌≡◌, refl, ap, ◌∙◌, sym}
+use mathlib.Core.Path.{◌≡◌, ap, ◌∙◌, sym}
 use mathlib.Core.Bool.{Bool, true}
 use mathlib.Core.List.{List}
 use Prim.Native.Nat.{ℕ, ◌+◌, ◌≤◌, ◌<◌, ◌^◌}
@@ -7,7 +7,7 @@ use native.Mathlib.Omega.{arith}
 use lib.Dec.{eqb, leb}
 use borrow.Author.Tests.{eqb-false, ltb-true}
 use Rattle.records.specs.Stages.{unless, first, first_of, stage}
-use Rattle.records.proofs.Tests.{first_stop, first_go, first_last, first_assoc, first-zero, first_of_zero, whenever-zero}
+use Rattle.records.proofs.Tests.{first_last, first_assoc, first-zero, first_of_zero, whenever-zero}
 use Rattle.item.specs.Items.{Fields, items}
 use Rattle.table.specs.Rows.{rows}
 use Rattle.request.specs.declared.Volume.{Volume}

@@ -10,7 +10,7 @@ use lib.ListN.{length}
 use borrow.Author.Tests.{eqb-true, leb-true, ltb-true}
 use Rattle.plan_def.proofs.Outcomes.{two-refused}
 use Rattle.records.specs.Stages.{whenever, unless, first, first_of, stage, every}
-use Rattle.records.proofs.Tests.{both_left, first_stop, first_go, first_assoc, first_last, first-zero, first_of_zero, unless-zero, ltb-suc}
+use Rattle.records.proofs.Tests.{both_left, first_assoc, first_last, first-zero, first_of_zero, unless-zero}
 use Rattle.item.specs.Items.{items}
 use Rattle.table.specs.Rows.{rows}
 use Rattle.lists.specs.Lists.{record_refusal}

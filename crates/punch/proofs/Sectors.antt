@@ -3,7 +3,7 @@ use mathlib.Core.Path.{◌≡◌, refl, ap, ◌∙◌, sym}
 use mathlib.Core.Bool.{Bool, true, false, cond, ◌&&◌, not, and_assoc}
 use mathlib.Core.List.{List, [], ◌∷◌}
 use mathlib.Core.Option.{none, some}
-use Prim.Native.Nat.{ℕ, ◌+◌, ◌-◌, ◌<◌, ◌≤◌, ◌^◌}
+use Prim.Native.Nat.{ℕ, ◌+◌, ◌<◌, ◌≤◌, ◌^◌}
 use native.Mathlib.Omega.{arith}
 use lib.Dec.{eqb, ltb}
 use lib.ListN.{length}
@@ -11,7 +11,6 @@ use borrow.Author.Tests.{lt-ltb, le-ltb}
 use Rattle.std.specs.Prelude.{Option, Some, None, is_some, option_to_list}
 use Rattle.std.specs.Bool.{then_some}
 use Rattle.records.specs.Select.{only}
-use Rattle.records.proofs.Tests.{both_right}
 use Rattle.item.specs.Items.{Fields}
 use Rattle.request.specs.Lent.{sector_sound}
 use Rattle.cut_def.specs.Mappings.{holder}
@@ -25,8 +24,8 @@ use Rattle.change_def.specs.declared.Rewrite.{Rewrite}
 use Rattle.change_def.proofs.Rewrites.{holder-item}
 use Rattle.change_def.proofs.Rounding.{down_below, sector-range}
 use Rattle.change_rewrites.specs.declared.Holder.{Holder}
-use Rattle.change_rewrites.specs.Raw.{holder_leaf, holder_in}
-use Rattle.punch_def.specs.Punch.{first_held, start_in, held_by, in_one_sector, within_sector, across_sectors, punch_change, change_from, plan_punch}
+use Rattle.change_rewrites.specs.Raw.{holder_in}
+use Rattle.punch_def.specs.Punch.{first_held, held_by, in_one_sector, within_sector, across_sectors, punch_change, plan_punch}
 
 -- an offset's sector fits 64 bits
 pub record Fitting (s x : ℕ) : Type 0 where

@@ -3,17 +3,15 @@ use mathlib.Core.Path.{◌≡◌, refl, ap, ◌∙◌, sym}
 use mathlib.Core.Bool.{Bool, true, false, cond, ◌&&◌, not, and-false}
 use mathlib.Core.List.{List, [], ◌∷◌}
 use mathlib.Core.Option.{none, some}
-use Prim.Native.Nat.{ℕ, suc, ◌+◌, ◌<◌, ◌≤◌, max}
+use Prim.Native.Nat.{ℕ, suc, ◌<◌, ◌≤◌, max}
 use native.Mathlib.Omega.{arith}
-use native.Mathlib.Numerals.{add-one}
 use lib.Dec.{ltb}
-use lib.ListN.{length, get_or, drop, drop_of_length-le}
-use lib.Seq.{drop-cons}
+use lib.ListN.{drop}
 use borrow.Author.Tests.{leb-true, leb-false, ltb-false, lt-ltb, le-ltb}
 use Rattle.records.specs.Stages.{every}
 use Rattle.records.proofs.Tests.{both, both_left, both_right}
 use Rattle.item.specs.Items.{Fields, hole, end}
-use Rattle.cut_segment.specs.Segments.{nothing, leading, ends_by, Runs}
+use Rattle.cut_segment.specs.Segments.{leading, ends_by, Runs}
 use Rattle.punch_def.specs.Punch.{lower, first_held}
 
 module _ (offset : ℕ) where
