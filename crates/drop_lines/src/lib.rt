@@ -15,9 +15,9 @@ ghost use Rattle.drop_lines.specs.Dropped.{taken, drops_in};
 ghost use Rattle.drop_lines.specs.Raw.{due, item_due, drop_of, line_of, row_lines};
 ghost use Rattle.drop_chains.specs.Links.{Blank, Linked};
 
-use std::ops::Range;
 use item::Item;
 use records::refusal::{Refusal, check};
+use std::ops::Range;
 use table::Row;
 
 // The range that is cut, and the starts of two extents that are written in place (0: none), whose items are compared

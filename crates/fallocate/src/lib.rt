@@ -86,13 +86,7 @@ fn item_refusal(size: u64, from: u64, to: u64, item: Item) -> Result<(), Refusal
 }
 
 // Refusals 10 and 11, item by item.
-fn items_refusal(
-    size: u64,
-    sector: u64,
-    offset: u64,
-    stop: u64,
-    list: &[u8],
-) -> Result<(), Refusal>
+fn items_refusal(size: u64, sector: u64, offset: u64, stop: u64, list: &[u8]) -> Result<(), Refusal>
     requires { (sector_sound sector ≡ true) × (stop < 2 ^ 63) }
     ensures { why result ≡ stage (item_refusal size (round_down sector offset) (round_up sector stop)) (items list.now) }
 {

@@ -13,8 +13,8 @@ ghost use Rattle.punch_def.specs.Punch.{first_held, held_by, in_one_sector, with
 ghost use Rattle.punch.specs.Raw.{offset_in, punch_plan_said, range_lent};
 
 use change_def::{RangeChange, Rewrite};
-use records::refusal::{Refusal, check};
 use records::both;
+use records::refusal::{Refusal, check};
 use request::{Answer, File, Range, Volume};
 
 // The first offset at or past `offset` that an item holds which is no hole: of records that run one behind the other, in the
@@ -157,8 +157,9 @@ pub fn range_refusal(
 {
     request::lent_refusal(v, f, list, shared, table)?;
     let stop = r.offset.checked_add(r.length);
+    let near = stop.is_some_and(|stop| stop < 9223372036854775808);
     check(r.length != 0, Refusal::Empty)?;
-    check(stop.is_some_and(|stop| stop < 9223372036854775808), Refusal::TooFar)?;
+    check(near, Refusal::TooFar)?;
     lists::records_refusal(list)
 }
 

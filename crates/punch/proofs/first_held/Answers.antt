@@ -3,7 +3,7 @@ use Rattle.punch.proofs.Starting.{left-first, start-turn, start_stop, start_none
 use Rattle.punch.proofs.first_held.Goals as goal
 
 pub loop-item-init : goal.loop-item-init
-loop-item-init c = let a = c.args in 
+loop-item-init c = let a = c.args in
     rw (c.into_iter-item-iterator.ensures.into_iter_gives, c.reader_at-item-items.ensures.0, c.reader_at-item-items.ensures.1, c.ending_by-from.ensures) (left-first a.offset 0 (items a.list.now) c.requires)
 
 pub returns-then-not-is_hole : goal.returns-then-not-is_hole
