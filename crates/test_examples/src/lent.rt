@@ -59,9 +59,7 @@ pub fn item(key: u64, kind: u64, start: u64, length: u64, position: u64, window:
 }
 
 // Items as a list of N bytes; those that find no room are left out.
-pub fn list<const N: usize>(items: &[Item]) -> [u8; N]
-    ensures { N ≡ length result }
-{
+pub fn list<const N: usize>(items: &[Item]) -> [u8; N] {
     let mut list = [0u8; N];
     for (record, item) in list.chunks_exact_mut(item::RECORD).zip(items) {
         item::put_item(record, 0, *item);

@@ -1,4 +1,6 @@
 // What the program prints: an answer, the lines of its plan, and whether the outputs past the plan are still 165.
+ghost use Rattle.std.specs.Prelude.{◌<◌};
+
 use request::{Answer, Numbers};
 use std::io;
 
