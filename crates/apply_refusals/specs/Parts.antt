@@ -1,4 +1,4 @@
--- For the code only: The parts of a plan that the code has, as they are lent.
+-- For the code only: the parts of a plan that the code has, as they are lent.
 use Rattle.apply_def.specs.Lent.{Parts as LentParts, parts_of}
 use Rattle.apply_refusals.specs.declared.Parts.{Parts}
 
