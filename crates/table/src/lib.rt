@@ -29,6 +29,13 @@ pub struct Row {
 // The numbers of a row.
 pub const WIDTH: usize = 5;
 
+// A table that passed refusal 3: its rows are as they should be, and rise.
+#[derive(Clone, Copy)]
+pub struct Table<'a> {
+    pub numbers: &'a [u64],
+    ghost kept: { table_kept (rows numbers.now) ≡ true },
+}
+
 // The row at place `at` of a table.
 fn row_in(table: &[u64], at: usize) -> Row
     requires { at + 5 ≤ length table.now }
@@ -86,28 +93,40 @@ pub fn table_refusal(table: &[u64]) -> Result<(), Refusal>
     Ok(())
 }
 
-// The row that starts at `start`, with its number, by halves; or none, for which refusal 14 is due.
-// The library's `partition_point` over `as_chunks` was tried, and proved: it takes 15 to 25 % more time, since it does not stop
-// at the row that it finds.
-pub fn find_row(table: &[u64], start: u64) -> Option<(usize, Row)>
-    requires { table_kept (rows table.now) ≡ true }
-    ensures { result ≡ find start (rows table.now) }
-{
-    let mut lo = 0;
-    let mut hi = table.len() / WIDTH;
-    while lo < hi {
-        let mid = lo + (hi - lo) / 2;
-        let s = table[mid * WIDTH];
-        if s == start {
-            return Some((mid, row_at(table, mid)));
+impl<'a> Table<'a> {
+    // The row that starts at `start`, with its number, by halves; or none, for which refusal 14 is due.
+    // The library's `partition_point` over `as_chunks` was tried, and proved: it takes 15 to 25 % more time, since it does not stop
+    // at the row that it finds.
+    pub fn find_row(self, start: u64) -> Option<(usize, Row)>
+        ensures { result ≡ find start (rows self.entry.numbers.now) }
+    {
+        let table = self.numbers;
+        let mut lo = 0;
+        let mut hi = table.len() / WIDTH;
+        while lo < hi {
+            let mid = lo + (hi - lo) / 2;
+            let s = table[mid * WIDTH];
+            if s == start {
+                return Some((mid, row_at(table, mid)));
+            }
+            if s < start {
+                lo = mid + 1;
+            } else {
+                hi = mid;
+            }
         }
-        if s < start {
-            lo = mid + 1;
-        } else {
-            hi = mid;
-        }
+        None
     }
-    None
+
+    // Refusals 14 and 15 of one more reference to the extent at `start`.
+    pub fn one_more_reference(self, start: u64) -> Result<(), Refusal>
+        ensures { why result ≡ one_more_reference start (rows self.entry.numbers.now) }
+    {
+        let Some((_, row)) = self.find_row(start) else {
+            return Err(Refusal::NoRow);
+        };
+        check(row.keyed == 0, Refusal::Keyed)
+    }
 }
 
 // Whether [logical, logical + len) lies inside the extent: the port's own signature.
@@ -131,17 +150,6 @@ pub fn item_window_inside(bytenr: u64, position: u64, len: u64, extent_len: u64)
         return false;
     };
     window_inside_extent(logical, len, bytenr, extent_len)
-}
-
-// Refusals 14 and 15 of one more reference to the extent at `start`.
-pub fn one_more_reference(table: &[u64], start: u64) -> Result<(), Refusal>
-    requires { table_kept (rows table.now) ≡ true }
-    ensures { why result ≡ one_more_reference start (rows table.now) }
-{
-    let Some((_, row)) = find_row(table, start) else {
-        return Err(Refusal::NoRow);
-    };
-    check(row.keyed == 0, Refusal::Keyed)
 }
 
 // Whether an item's window lies inside the extent, if it is not compressed.

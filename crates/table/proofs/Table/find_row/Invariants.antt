@@ -1,6 +1,6 @@
 use Prim.Native.Nat.{◌-◌}
 use Rattle.table.proofs.Halves.{Between}
-use Rattle.table.proofs.find_row.Given as goal
+use Rattle.table.proofs.Table.find_row.Given as goal
 
 -- By halves: the rows below lo start before `start`, those from hi on after it.
 abbrev pub invariant-loop-lo : goal.invariant-loop-lo
