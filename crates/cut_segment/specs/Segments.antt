@@ -1,6 +1,8 @@
 -- For the code only: a segment: the few items of a file's list that a change makes anew, in a buffer beside the lent list.
 use Rattle.std.specs.Prelude.{◌≡◌, Bool, true, cond, not, List, [], ◌∷◌, ◌++◌, ℕ, suc, ◌+◌, ◌-◌, ◌^◌, ◌≤◌, ◌<◌, leb, ltb, length, get_or, take, drop}
 use denote.Param.Members.{Shared}
+use Rattle.std.specs.Coded.{Unit-prop}
+use Rattle.std.proofs.Props.{props}
 use Rattle.records.specs.Stages.{every}
 use Rattle.item.specs.Items.{Fields, fields, items, end, regular_item}
 use Rattle.item.specs.declared.Item.{Item}
@@ -49,6 +51,11 @@ starts_by k f = leb f.key k
 abbrev pub Runs : ℕ → List Fields → Type 0
 Runs b [] = Unit {0}
 Runs b (f ∷ fs) = (b ≤ f.key) × (1 ≤ f.length) × (end f ≤ 2 ^ 63) × (f.position + f.length < 2 ^ 64) × Runs (end f) fs
+
+-- a fact of one proof, as a field of a type has to be
+pub runs_prop : (b : ℕ) (fs : List Fields) → IsProp (Runs b fs)
+runs_prop b [] = Unit-prop
+runs_prop b (f ∷ fs) = let rest = runs_prop (end f) fs in Prim.hlevel (props, rest)
 
 -- items appended to the n records of a buffer
 pub record Added (n : ℕ) (xs : List Fields) (seg : List ℕ) (m : ℕ) (seg' : List ℕ) : Type 0 where

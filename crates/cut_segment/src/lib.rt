@@ -7,7 +7,7 @@ ghost use Rattle.records.specs.Lent.{old, new};
 ghost use Rattle.records.specs.Select.{only};
 ghost use Rattle.item.specs.Items.{Fields, fields, items, end};
 ghost use Rattle.cut_def.specs.Cuts.{front, back};
-ghost use Rattle.cut_segment.specs.Segments.{item_at, Added, leading, ends_by, starts_by, Leads, Answers, Runs, Touching, Cutting, Inserted};
+ghost use Rattle.cut_segment.specs.Segments.{item_at, Added, leading, ends_by, starts_by, Leads, Answers, Runs, runs_prop, Touching, Cutting, Inserted};
 
 use item::{Item, RECORD};
 use records::{sum_at_most, sum_past};
@@ -20,6 +20,13 @@ pub struct Segment {
     pub from: usize,
     pub to: usize,
     pub count: usize,
+}
+
+// Records that run one behind the other: none reaches the next, and none ends past 2^63.
+#[derive(Clone, Copy)]
+pub struct Running<'a> {
+    pub list: &'a [u8],
+    ghost runs: { Runs 0 (items list.now) } by { runs_prop 0 (items list.now) },
 }
 
 // ---- a buffer of records: the caller's, of a fixed size (the library has no heap), so how many there are stands beside it
@@ -104,22 +111,6 @@ fn leading<P: Fn(Item) -> bool>(list: &[u8], passes: P) -> usize
     records.partition_point(|record| passes(item::item_at(record, 0)))
 }
 
-// How many records of a list end at most at lo.
-pub fn ending_by(list: &[u8], lo: u64) -> usize
-    requires { Runs 0 (items list.now) }
-    ensures { result ≡ leading (ends_by lo) (items list.now) }
-{
-    leading(list, |item| sum_at_most(item.key, item.length(), lo))
-}
-
-// How many start at most at a key.
-fn started_by(list: &[u8], key: u64) -> usize
-    requires { Runs 0 (items list.now) }
-    ensures { result ≡ leading (starts_by key) (items list.now) }
-{
-    leading(list, |item| item.key <= key)
-}
-
 // The number of the first of n records, from `start` on, that starts past a key; n where there is none.
 pub fn starting_by(list: &[u8], start: usize, n: usize, key: u64) -> usize
     requires { (start ≤ n) × (n ≤ length (items list.now)) }
@@ -130,31 +121,46 @@ pub fn starting_by(list: &[u8], start: usize, n: usize, key: u64) -> usize
         .unwrap_or(n)
 }
 
-// The records that [lo, hi) touches, which stand one behind the other.
-pub fn touched(list: &[u8], lo: u64, hi: u64) -> Range<usize>
-    requires { Runs 0 (items list.now) }
-    ensures { Touching lo hi (items list.now) result }
-{
-    if hi <= lo {
-        return 0..0;
+impl<'a> Running<'a> {
+    // How many records end at most at lo.
+    pub fn ending_by(self, lo: u64) -> usize
+        ensures { result ≡ leading (ends_by lo) (items self.entry.list.now) }
+    {
+        leading(self.list, |item| sum_at_most(item.key, item.length(), lo))
     }
-    ending_by(list, lo)..started_by(list, hi - 1)
-}
 
-// [lo, hi) taken out of a list: the records that it touches make way for the first one's front and the last one's back.
-pub fn cut_segment(list: &[u8], lo: u64, hi: u64, seg: &mut [u8]) -> Segment
-    requires { Runs 0 (items list.now) × (140 ≤ length seg.old) }
-    ensures { Cutting lo hi list.now result seg.new }
-{
-    let found = touched(list, lo, hi);
-    let from = found.start;
-    let to = found.end;
-    if from == to {
-        return Segment { from, to, count: 0 };
+    // How many start at most at a key.
+    fn started_by(self, key: u64) -> usize
+        ensures { result ≡ leading (starts_by key) (items self.entry.list.now) }
+    {
+        leading(self.list, |item| item.key <= key)
     }
-    let n = put_front(seg, 0, lo, record_at(list, from));
-    let m = put_back(seg, n, hi, record_at(list, to - 1));
-    Segment { from, to, count: m }
+
+    // The records that [lo, hi) touches, which stand one behind the other.
+    pub fn touched(self, lo: u64, hi: u64) -> Range<usize>
+        ensures { Touching lo hi (items self.entry.list.now) result }
+    {
+        if hi <= lo {
+            return 0..0;
+        }
+        self.ending_by(lo)..self.started_by(hi - 1)
+    }
+
+    // [lo, hi) taken out of a list: the records that it touches make way for the first one's front and the last one's back.
+    pub fn cut(self, lo: u64, hi: u64, seg: &mut [u8]) -> Segment
+        requires { 140 ≤ length seg.old }
+        ensures { Cutting lo hi self.entry.list.now result seg.new }
+    {
+        let found = self.touched(lo, hi);
+        let from = found.start;
+        let to = found.end;
+        if from == to {
+            return Segment { from, to, count: 0 };
+        }
+        let n = put_front(seg, 0, lo, record_at(self.list, from));
+        let m = put_back(seg, n, hi, record_at(self.list, to - 1));
+        Segment { from, to, count: m }
+    }
 }
 
 // ---- putting an item in
