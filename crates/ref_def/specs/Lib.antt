@@ -1,2 +1,3 @@
 pub mod Compared
 pub mod Drops
+pub mod Lent

@@ -1,13 +1,21 @@
 // References compared, and dropped items: definitions and laws, and which items name an extent in code.
 #![tactic(auto)]
 
-ghost use Rattle.std.specs.Prelude.{◌≡◌, [], ◌∷◌};
-ghost use Rattle.item.specs.Items.{fields};
+ghost use Rattle.std.specs.Prelude.{◌≡◌, [], ◌∷◌, length};
+ghost use Rattle.item.specs.Items.{fields, items};
 ghost use Rattle.cut_def.specs.Mappings.{named};
 ghost use Rattle.cut_def.specs.Refs.{names};
 ghost use Rattle.ref_def.specs.Compared.{among};
 
 use item::Item;
+
+// A list with the shared byte of each of its records.
+#[derive(Clone, Copy)]
+pub struct Leaves<'a> {
+    pub list: &'a [u8],
+    pub shared: &'a [u8],
+    ghost one_each: { length shared.now ≡ length (items list.now) },
+}
 
 // An item of kind 1 or 2 that is no hole.
 pub fn is_named(item: Item) -> bool

@@ -1,3 +1,4 @@
 pub mod Lent
 pub mod Answers
 pub mod Raw
+pub mod Call

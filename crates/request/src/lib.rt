@@ -4,9 +4,9 @@
 ghost use Rattle.std.specs.Prelude.{◌≡◌};
 ghost use Rattle.records.specs.Refusals.{why};
 ghost use Rattle.records.specs.Stages.{unless};
-ghost use Rattle.request.specs.Lent.{sector_sound, size_sound, lent, lent2};
+ghost use Rattle.request.specs.Lent.{sector_sound, size_sound};
 ghost use Rattle.request.specs.Raw.{fours, fours2, ones, twos};
-ghost use Rattle.request.specs.Answers.{number_of};
+ghost use Rattle.request.specs.Call.{lent_in, lent2_in};
 
 use records::refusal::{Refusal, check};
 
@@ -49,22 +49,14 @@ pub struct Numbers {
     pub prealloc: bool,
 }
 
+// What a punch or a fallocate is lent: the volume, the file, its list with the shared bytes, and the table. Any bytes may be lent.
 #[derive(Clone, Copy)]
-pub enum Answer {
-    Planned(Numbers),
-    Nothing,
-    Refused(u8),
-}
-
-// The number of a refusal, or 0.
-pub fn number_of(answer: Answer) -> u8
-    ensures { result ≡ number_of answer }
-{
-    match answer {
-        Answer::Planned(_) => 0,
-        Answer::Nothing => 0,
-        Answer::Refused(n) => n,
-    }
+pub struct Lent<'a> {
+    pub volume: Volume,
+    pub file: File,
+    pub list: &'a [u8],
+    pub shared: &'a [u8],
+    pub table: &'a [u64],
 }
 
 // Whether a sector is a power of two from 4,096 to 65,536.
@@ -124,37 +116,27 @@ fn twos(number: u64, number2: u64, own: bool, list: &[u8], source: &[u8]) -> Res
 }
 
 // Refusals 1 to 4 of what a punch or a fallocate is lent.
-pub fn lent_refusal(
-    v: Volume,
-    f: File,
-    list: &[u8],
-    shared: &[u8],
-    table: &[u64],
-) -> Result<(), Refusal>
-    ensures { why result ≡ lent v f list.now shared.now table.now }
+pub fn lent_refusal(l: Lent) -> Result<(), Refusal>
+    ensures { why result ≡ lent_in l.entry }
 {
-    ones(list, shared, table)?;
-    lists::list_refusal(list, f.number)?;
-    table::table_refusal(table)?;
-    fours(v.sector, f.size, list)
+    ones(l.list, l.shared, l.table)?;
+    lists::list_refusal(l.list, l.file.number)?;
+    table::table_refusal(l.table)?;
+    fours(l.volume.sector, l.file.size, l.list)
 }
 
-// Refusals 1 to 4 of what a clone is lent; `own` says that the source is the destination itself.
+// Refusals 1 to 4 of what a clone is lent, its destination first; `own` says that the source is the destination itself.
 pub fn lent_refusal2(
-    v: Volume,
-    dst: File,
+    l: Lent,
     src: File,
     own: bool,
-    list: &[u8],
-    shared: &[u8],
     source: &[u8],
-    table: &[u64],
 ) -> Result<(), Refusal>
-    ensures { why result ≡ lent2 v dst src own list.now shared.now source.now table.now }
+    ensures { why result ≡ lent2_in l.entry src own source.now }
 {
     lists::list_size_refusal(source)?;
-    ones(list, shared, table)?;
-    twos(dst.number, src.number, own, list, source)?;
-    table::table_refusal(table)?;
-    fours2(v.sector, dst.size, src.size, list, source)
+    ones(l.list, l.shared, l.table)?;
+    twos(l.file.number, src.number, own, l.list, source)?;
+    table::table_refusal(l.table)?;
+    fours2(l.volume.sector, l.file.size, src.size, l.list, source)
 }

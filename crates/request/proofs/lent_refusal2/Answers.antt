@@ -5,20 +5,20 @@ use Rattle.request.proofs.lent_refusal2.Goals as goal
 
 pub returns-in_err-list_size_refusal : goal.returns-in_err-list_size_refusal
 unfolding first
-returns-in_err-list_size_refusal c = let a = c.args in rw (← lent_groups2 a.v a.dst a.src a.own a.list.now a.shared.now a.source.now a.table.now) (search rules)
+returns-in_err-list_size_refusal c = let a = c.args in rw (← lent_groups2 a.l.volume a.l.file a.src a.own a.l.list.now a.l.shared.now a.source.now a.l.table.now) (search rules)
 
 pub returns-in_err-ones : goal.returns-in_err-ones
 unfolding first
-returns-in_err-ones c = let a = c.args in rw (← lent_groups2 a.v a.dst a.src a.own a.list.now a.shared.now a.source.now a.table.now) (search rules)
+returns-in_err-ones c = let a = c.args in rw (← lent_groups2 a.l.volume a.l.file a.src a.own a.l.list.now a.l.shared.now a.source.now a.l.table.now) (search rules)
 
 pub returns-in_err-twos : goal.returns-in_err-twos
 unfolding first
-returns-in_err-twos c = let a = c.args in rw (← lent_groups2 a.v a.dst a.src a.own a.list.now a.shared.now a.source.now a.table.now) (search rules)
+returns-in_err-twos c = let a = c.args in rw (← lent_groups2 a.l.volume a.l.file a.src a.own a.l.list.now a.l.shared.now a.source.now a.l.table.now) (search rules)
 
 pub returns-in_err-table_refusal : goal.returns-in_err-table_refusal
 unfolding first
-returns-in_err-table_refusal c = let a = c.args in rw (← lent_groups2 a.v a.dst a.src a.own a.list.now a.shared.now a.source.now a.table.now) (search rules)
+returns-in_err-table_refusal c = let a = c.args in rw (← lent_groups2 a.l.volume a.l.file a.src a.own a.l.list.now a.l.shared.now a.source.now a.l.table.now) (search rules)
 
 pub returns : goal.returns
 unfolding first
-returns c = let a = c.args in rw (← lent_groups2 a.v a.dst a.src a.own a.list.now a.shared.now a.source.now a.table.now) (search rules)
+returns c = let a = c.args in rw (← lent_groups2 a.l.volume a.l.file a.src a.own a.l.list.now a.l.shared.now a.source.now a.l.table.now) (search rules)
