@@ -13,7 +13,7 @@ use Rattle.records.specs.Records.{chunks, records}
 use Rattle.records.proofs.Loops.{records-length}
 use Rattle.records.proofs.Lists.{flat_append, flat_drop}
 use Rattle.records.proofs.Chunks.{chunks-cut, chunks-take}
-use Rattle.plan_def.proofs.Outputs.{parts_length}
+use Rattle.plan_def.proofs.Leaving.{parts_length}
 use Rattle.apply_def.specs.Buffers.{Same}
 
 -- ---- the first records

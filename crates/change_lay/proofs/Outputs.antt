@@ -11,7 +11,7 @@ use Rattle.request.specs.declared.Answer.TheVariants.{Nothing, Refused}
 use Rattle.request.specs.Answers.{Outcome, plan, nothing, refused}
 use Rattle.plan_def.specs.Plans.{Plan}
 use Rattle.plan_def.specs.Outputs.{Outs, rooms_of, room_for, left, MetWith, edit_bytes, ref_numbers, add_numbers, write_numbers}
-use Rattle.plan_def.proofs.Outputs.{edit-length}
+use Rattle.plan_def.proofs.Leaving.{edit-length}
 use Rattle.plan_lines.specs.Lines.{lay}
 use Rattle.plan_lines.proofs.Laws.{lay-put}
 

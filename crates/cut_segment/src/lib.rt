@@ -25,8 +25,16 @@ pub struct Segment {
 // Records that run one behind the other: none reaches the next, and none ends past 2^63.
 #[derive(Clone, Copy)]
 pub struct Running<'a> {
-    pub list: &'a [u8],
-    ghost runs: { Runs 0 (items list.now) } by { runs_prop 0 (items list.now) },
+    pub records: &'a [u8],
+    ghost runs: { Runs 0 (items records.now) } by { runs_prop 0 (items records.now) },
+}
+
+// Such records, each with its shared byte.
+#[derive(Clone, Copy)]
+pub struct RunningLeaves<'a> {
+    pub list: Running<'a>,
+    pub shared: &'a [u8],
+    ghost one_each: { length shared.now ≡ length (items list.records.now) },
 }
 
 // ---- a buffer of records: the caller's, of a fixed size (the library has no heap), so how many there are stands beside it
@@ -124,21 +132,21 @@ pub fn starting_by(list: &[u8], start: usize, n: usize, key: u64) -> usize
 impl<'a> Running<'a> {
     // How many records end at most at lo.
     pub fn ending_by(self, lo: u64) -> usize
-        ensures { result ≡ leading (ends_by lo) (items self.entry.list.now) }
+        ensures { result ≡ leading (ends_by lo) (items self.entry.records.now) }
     {
-        leading(self.list, |item| sum_at_most(item.key, item.length(), lo))
+        leading(self.records, |item| sum_at_most(item.key, item.length(), lo))
     }
 
     // How many start at most at a key.
     fn started_by(self, key: u64) -> usize
-        ensures { result ≡ leading (starts_by key) (items self.entry.list.now) }
+        ensures { result ≡ leading (starts_by key) (items self.entry.records.now) }
     {
-        leading(self.list, |item| item.key <= key)
+        leading(self.records, |item| item.key <= key)
     }
 
     // The records that [lo, hi) touches, which stand one behind the other.
     pub fn touched(self, lo: u64, hi: u64) -> Range<usize>
-        ensures { Touching lo hi (items self.entry.list.now) result }
+        ensures { Touching lo hi (items self.entry.records.now) result }
     {
         if hi <= lo {
             return 0..0;
@@ -149,7 +157,7 @@ impl<'a> Running<'a> {
     // [lo, hi) taken out of a list: the records that it touches make way for the first one's front and the last one's back.
     pub fn cut(self, lo: u64, hi: u64, seg: &mut [u8]) -> Segment
         requires { 140 ≤ length seg.old }
-        ensures { Cutting lo hi self.entry.list.now result seg.new }
+        ensures { Cutting lo hi self.entry.records.now result seg.new }
     {
         let found = self.touched(lo, hi);
         let from = found.start;
@@ -157,8 +165,8 @@ impl<'a> Running<'a> {
         if from == to {
             return Segment { from, to, count: 0 };
         }
-        let n = put_front(seg, 0, lo, record_at(self.list, from));
-        let m = put_back(seg, n, hi, record_at(self.list, to - 1));
+        let n = put_front(seg, 0, lo, record_at(self.records, from));
+        let m = put_back(seg, n, hi, record_at(self.records, to - 1));
         Segment { from, to, count: m }
     }
 }

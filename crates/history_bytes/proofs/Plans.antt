@@ -22,7 +22,7 @@ use Rattle.cut_def.specs.Refs.{Ref}
 use Rattle.plan_def.specs.Plans.{Plan, Add, refused_or}
 use Rattle.plan_def.specs.Outputs.{Outs, left, edit_bytes, ref_numbers, add_numbers}
 use Rattle.plan_def.specs.ReadBack.{ref_in, add_in, refs_in, adds_in}
-use Rattle.plan_def.proofs.Outputs.{edit-length}
+use Rattle.plan_def.proofs.Leaving.{edit-length}
 use Rattle.plan_lines.proofs.Laws.{length_flat}
 use Rattle.plan_lines.proofs.Again.{lines_read}
 use Rattle.clone_def.specs.Clone.{chosen, clone}

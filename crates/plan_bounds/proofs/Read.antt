@@ -15,7 +15,7 @@ use Rattle.item.proofs.Runs.{decode-encode}
 use Rattle.cut_def.specs.Edits.{Edit, put, delete}
 use Rattle.plan_def.specs.Outputs.{edit_bytes}
 use Rattle.plan_def.specs.ReadBack.{edit_in, edits_in}
-use Rattle.plan_def.proofs.Outputs.{edit-length}
+use Rattle.plan_def.proofs.Leaving.{edit-length}
 use Rattle.plan_lines.proofs.Again.{lines_read}
 use Rattle.plan_bounds.specs.Widths.{edit_fits}
 use Rattle.plan_bounds.proofs.Tests.{fields-sound}

@@ -1,4 +1,4 @@
 pub mod Outcomes
 pub mod Places
-pub mod Outputs
+pub mod Leaving
 pub mod Examples

@@ -7,7 +7,10 @@ use Rattle.endian.specs.Le.{enc, put}
 use Rattle.item.specs.Items.{encode}
 use Rattle.cut_def.specs.Refs.{Ref}
 use Rattle.cut_def.specs.Edits.{Edit, put as putItem, delete}
-use Rattle.request.specs.declared.Answer.{Answer}
+use Rattle.std.specs.Prelude.{Option, Result}
+use Rattle.records.specs.declared.refusal.Refusal.{Refusal}
+use Rattle.request.specs.declared.Numbers.{Numbers}
+use Rattle.plan_def.specs.declared.Outputs.{Outputs}
 use Rattle.request.specs.Answers.{Outcome, plan, nothing, refused, said as answered}
 use Rattle.plan_def.specs.Plans.{Plan, Add, Write, told}
 
@@ -89,24 +92,27 @@ left file nothing o = o
 left file (refused n) o = o
 
 -- an operation on a file does what its definition says: the answer, and every number of the outputs after it
-pub record MetWith (file : ℕ) (o : Outcome Plan) (r : Answer) (before after : Outs) : Type 0 where
+pub record MetWith (file : ℕ) (o : Outcome Plan) (r : Result (Option Numbers) Refusal) (before after : Outs) : Type 0 where
   pub answer : answered r ≡ told o
   pub outputs : after ≡ left file o before
 
--- the outputs when a function is called and when it returns: six, five (no adds), or a clone's four
-abbrev pub six : (edits shares unrefs releases adds writes : Slice) → Both Outs Outs
-six e s u r a w = record { entry = outs (old e) (old s) (old u) (old r) (old a) (old w); exit = outs (new e) (new s) (new u) (new r) (new a) (new w) }
+-- what the six hold
+abbrev pub outs_in : Outputs → Outs
+outs_in o = outs o.edits.now o.shares.now o.unrefs.now o.releases.now o.adds.now o.writes.now
 
-abbrev pub five : (edits shares unrefs releases writes : Slice) → Both Outs Outs
-five e s u r w = record { entry = outs (old e) (old s) (old u) (old r) [] (old w); exit = outs (new e) (new s) (new u) (new r) [] (new w) }
-
-abbrev pub four : (edits shares unrefs releases : Slice) → Both Outs Outs
-four e s u r = record { entry = outs (old e) (old s) (old u) (old r) [] []; exit = outs (new e) (new s) (new u) (new r) [] [] }
+-- a call writes to what it was lent: the outputs are the same slices after it
+pub record Kept (before after : Outputs) : Type 0 where
+  pub edits : after.edits.ghost_name ≡ before.edits.ghost_name
+  pub shares : after.shares.ghost_name ≡ before.shares.ghost_name
+  pub unrefs : after.unrefs.ghost_name ≡ before.unrefs.ghost_name
+  pub releases : after.releases.ghost_name ≡ before.releases.ghost_name
+  pub adds : after.adds.ghost_name ≡ before.adds.ghost_name
+  pub writes : after.writes.ghost_name ≡ before.writes.ghost_name
 
 -- the outputs hold what an answer leaves in them
-abbrev pub LeftBy : (file : ℕ) → Outcome Plan → Both Outs Outs → Type 0
-LeftBy file o s = s.exit ≡ left file o s.entry
+abbrev pub LeftBy : (file : ℕ) → Outcome Plan → (before after : Outputs) → Type 0
+LeftBy file o before after = outs_in after ≡ left file o (outs_in before)
 
 -- what an operation ensures of a definition from the rooms, which are those of the outputs
-abbrev pub Met : (file : ℕ) → (Rooms → Outcome Plan) → Answer → Both Outs Outs → Type 0
-Met file definition r o = MetWith file (definition (rooms_of o.entry)) r o.entry o.exit
+abbrev pub Met : (file : ℕ) → (Rooms → Outcome Plan) → Result (Option Numbers) Refusal → (before after : Outputs) → Type 0
+Met file definition r before after = MetWith file (definition (rooms_of (outs_in before))) r (outs_in before) (outs_in after)

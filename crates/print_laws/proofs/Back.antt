@@ -17,7 +17,7 @@ use Rattle.request.specs.Answers.{Outcome, plan, nothing, refused, said}
 use Rattle.plan_def.specs.Plans.{Plan, numbers}
 use Rattle.plan_def.specs.Outputs.{Outs, MetWith, laid, left, edit_bytes, ref_numbers, add_numbers, write_numbers}
 use Rattle.plan_def.specs.ReadBack.{edit_in, ref_in, add_in, write_in}
-use Rattle.plan_def.proofs.Outputs.{edit-length}
+use Rattle.plan_def.proofs.Leaving.{edit-length}
 use Rattle.plan_lines.proofs.Laws.{length_flat}
 use Rattle.plan_bounds.specs.Widths.{edit_fits}
 use Rattle.plan_bounds.proofs.Read.{edit-back}

@@ -3,4 +3,4 @@ pub mod Drops
 pub mod Lines
 pub mod Examples
 pub mod Among
-pub mod Leaves
+pub mod Zipped

@@ -3,7 +3,7 @@ use Rattle.item.specs.Items.{items}
 use Rattle.item.proofs.Laws.{items-length}
 use Rattle.ref_def.specs.Drops.{in_leaves}
 use Rattle.ref_def.proofs.Drops.{leaves-length}
-use Rattle.ref_def.proofs.Leaves.{leaves_more, leaves_end}
+use Rattle.ref_def.proofs.Zipped.{leaves_more, leaves_end}
 use Rattle.drop_chains.proofs.Walks.{tally_first}
 use Rattle.drop_lines.proofs.Tallies.{of_extent, tally_room, tally_skip, tally_held, tally_more, released-held, released-tally}
 use Rattle.drop_lines.proofs.is_released.Goals as goal

@@ -1,7 +1,7 @@
 use Rattle.std.proofs.Common.{true}
 use Rattle.item.specs.Items.{items}
 use Rattle.ref_def.specs.Drops.{in_leaves}
-use Rattle.ref_def.proofs.Leaves.{leaves_left}
+use Rattle.ref_def.proofs.Zipped.{leaves_left}
 use Rattle.drop_chains.proofs.Walks.{Tally}
 use Rattle.drop_lines.proofs.Tallies.{of_extent}
 use Rattle.drop_lines.proofs.is_released.Given as goal
