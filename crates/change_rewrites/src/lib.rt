@@ -19,7 +19,7 @@ ghost use Rattle.change_def.proofs.Fair.{Sound};
 ghost use Rattle.change_rewrites.specs.Raw.{holder_leaf, holder_in, lent_ground, in_place_why, Held, Writable, in_place_of, said_in_place, extent_of, write_of, item_of};
 
 use change_def::Rewrite;
-use item::Item;
+use item::{Item, Kind};
 use records::refusal::{Refusal, check};
 use records::sum_past;
 use request::{File, Volume};
@@ -130,8 +130,8 @@ pub fn rewrite_refusal(
         return Ok(());
     };
     let kind = h.item.kind();
-    check(!(f.nodatacow && kind == 1), Refusal::Nodatacow)?;
-    if kind != 2 {
+    check(!(f.nodatacow && kind == Kind::Regular), Refusal::Nodatacow)?;
+    if kind != Kind::Preallocated {
         return Ok(());
     }
     in_place_refusal(v, r, h, list, table)
@@ -144,7 +144,7 @@ pub fn preallocated(r: Option<Rewrite>, list: &[u8], shared: &[u8]) -> Option<In
 {
     let rewrite = r?;
     let holder = holding_item(rewrite.sector, list, shared)?;
-    if holder.item.kind() != 2 {
+    if holder.item.kind() != Kind::Preallocated {
         return None;
     }
     Some(InPlace { rewrite, holder })

@@ -9,7 +9,7 @@ ghost use Rattle.table.specs.Rows.{rows, table_kept};
 ghost use Rattle.clone_items.specs.Copies.{overlaps, clone_item, source_record, copied};
 ghost use Rattle.clone_items.specs.Raw.{InFiles, Copyable, range_kept, copy_refusal, overlap_refusal};
 
-use item::Item;
+use item::{Item, Kind};
 use records::refusal::{Refusal, check};
 use records::sum_past;
 
@@ -33,7 +33,7 @@ fn is_overlapping(c: Copying, item: Item) -> bool
 pub fn is_copied(c: Copying, item: Item) -> bool
     ensures { result ≡ copied c (fields item) }
 {
-    item.kind() != 0 && is_overlapping(c, item) && !cut_def::is_hole(item)
+    item.kind() != Kind::Inline && is_overlapping(c, item) && !cut_def::is_hole(item)
 }
 
 // The copy of an item that overlaps: trimmed to the range, and moved into the destination.
@@ -86,10 +86,10 @@ fn source_record(c: Copying, table: &[u64], item: Item) -> Result<(), Refusal>
     ensures { why result ≡ source_record (rows table.now) c (fields item) }
 {
     let kind = item.kind();
-    if kind == 0 {
+    if kind == Kind::Inline {
         return check(c.from != 0, Refusal::Inline);
     }
-    check(kind <= 2, Refusal::Kind)?;
+    check(kind != Kind::Other, Refusal::Kind)?;
     if !is_overlapping(c, item) {
         return Ok(());
     }

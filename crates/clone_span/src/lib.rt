@@ -9,7 +9,7 @@ ghost use Rattle.item.specs.Items.{fields, items};
 ghost use Rattle.request.specs.Lent.{sector_sound};
 ghost use Rattle.clone_span.specs.Spans.{resolved, span_of, source_refusal, destination_refusal, destination_record, growth_refusal};
 
-use item::Item;
+use item::{Item, Kind};
 use records::refusal::{Refusal, check};
 use records::{sum_at_most, sum_is};
 
@@ -81,8 +81,8 @@ fn destination_record(item: Item) -> Result<(), Refusal>
     ensures { why result ≡ destination_record (fields item) }
 {
     let kind = item.kind();
-    check(kind != 0, Refusal::Inline)?;
-    check(kind <= 2, Refusal::Kind)
+    check(kind != Kind::Inline, Refusal::Inline)?;
+    check(kind != Kind::Other, Refusal::Kind)
 }
 
 // Refusals 7 and 8, record by record.

@@ -7,7 +7,7 @@ ghost use Rattle.item.specs.Items.{fields, hole};
 ghost use Rattle.cut_def.specs.Cuts.{touched, covered, split};
 ghost use Rattle.cut_def.specs.Joins.{plain, joinable};
 
-use item::Item;
+use item::{Item, Kind};
 use records::{sum_at_most, sum_is, sum_past};
 
 // An item that names no extent.
@@ -42,7 +42,10 @@ pub fn is_split(lo: u64, hi: u64, item: Item) -> bool
 fn is_plain(item: Item) -> bool
     ensures { result ≡ plain (fields item) }
 {
-    item.kind() == 1 && item.compression() == 0 && item.encryption() == 0 && item.other() == 0
+    item.kind() == Kind::Regular
+        && item.compression() == 0
+        && item.encryption() == 0
+        && item.other() == 0
 }
 
 // Whether two items may become one: both plain, touching, of one extent and with one reference offset.

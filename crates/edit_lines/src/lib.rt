@@ -16,7 +16,7 @@ ghost use Rattle.edit_lines.specs.Pieced.{piece_item, piece_items};
 ghost use Rattle.edit_lines.specs.Merge.{piece_first, IsNext, Ready, Stepped};
 
 use edit_merge::{MergeCursor, Next};
-use item::Item;
+use item::{Item, Kind};
 
 // ---- the new items
 
@@ -28,7 +28,7 @@ fn piece_at(pieces: &[u64], k: usize, file: u64, generation: u64) -> Item
 {
     let at = k * 3;
     let i = Item::regular_extent_item(file, pieces[at + 2], generation, pieces[at], pieces[at + 1]);
-    i.of_kind(2)
+    i.of_kind(Kind::Preallocated)
 }
 
 // Whether the next piece comes before all items left in the segment.

@@ -17,7 +17,7 @@ ghost use Rattle.fallocate.specs.Raw.{end_change, fill_of, refusal_lent};
 
 use change_def::{Fill, RangeChange, Rewrite};
 use change_holes::{Bounds, NewExtents};
-use item::Item;
+use item::{Item, Kind};
 use records::refusal::{Refusal, check};
 use records::sum_past;
 use request::{Answer, File, Range, Volume};
@@ -78,7 +78,7 @@ fn item_refusal(size: u64, from: u64, to: u64, item: Item) -> Result<(), Refusal
     ensures { why result ≡ item_refusal size from to (fields item) }
 {
     if sum_past(item.key, item.length(), from) && item.key < to {
-        let past = item.kind() == 1 && size <= item.key;
+        let past = item.kind() == Kind::Regular && size <= item.key;
         check(!cut_def::is_hole(item), Refusal::Hole)?;
         check(!past, Refusal::PastSize)?;
     }

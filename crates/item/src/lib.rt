@@ -1,14 +1,17 @@
 // An item of a file's list: the port's `DiskKey` with the data of its `EXTENT_DATA` item, and `regular_extent_item`.
 #![tactic(auto)]
 
+pub mod kind;
 pub mod reader;
 
 ghost use Rattle.std.specs.Prelude.{◌≡◌, ◌+◌, ◌*◌, ◌^◌, ◌<◌, ◌≤◌, length, take, drop, replicate};
 ghost use Rattle.records.specs.Lent.{old, new};
 ghost use Rattle.endian.specs.Le.{num, enc, put};
 ghost use Rattle.item.specs.Items.{fields, item_of, encode, reference, regular_item, windowed, joined, written_in_place, of_kind};
+ghost use Rattle.item.specs.Kinds.{kind_of, byte_of};
 ghost use Rattle.item.specs.Raw.{written, blank};
 
+pub use kind::Kind;
 pub use reader::{Reader, items, reader_at};
 
 // An item's key and its data, kept together.
@@ -77,7 +80,14 @@ impl Item {
         endian::le16_at(&self.data, Self::OTHER_ENCODING)
     }
 
-    pub fn kind(self) -> u8
+    pub fn kind(self) -> Kind
+        ensures { result ≡ kind_of (fields self).kind }
+    {
+        Kind::from(self.kind_byte())
+    }
+
+    // Its kind as it stands on disk, which is printed.
+    pub fn kind_byte(self) -> u8
         ensures { result ≡ (fields self).kind }
     {
         endian::le8_at(&self.data, Self::TYPE)
@@ -145,10 +155,10 @@ impl Item {
     }
 
     // An item of another kind.
-    pub fn of_kind(self, kind: u8) -> Self
-        ensures { fields result ≡ of_kind (fields self) kind }
+    pub fn of_kind(self, kind: Kind) -> Self
+        ensures { fields result ≡ of_kind (fields self) (byte_of kind) }
     {
-        self.with_num(Self::TYPE, 1, kind as u64)
+        self.with_num(Self::TYPE, 1, kind.byte() as u64)
     }
 
     // A part of a preallocated item, written where it lies.
@@ -156,7 +166,7 @@ impl Item {
         ensures { fields result ≡ written_in_place (fields self) key generation position length }
     {
         self.windowed(self.file, key, position, length)
-            .of_kind(1)
+            .of_kind(Kind::Regular)
             .with_num(Self::GENERATION, 8, generation)
     }
 
@@ -185,7 +195,7 @@ impl Item {
         Self::zeros(file, key)
             .with_num(Self::GENERATION, 8, generation)
             .with_num(Self::RAM_BYTES, 8, length)
-            .with_num(Self::TYPE, 1, 1)
+            .with_num(Self::TYPE, 1, Kind::Regular as u64)
             .with_num(Self::DISK_BYTENR, 8, start)
             .with_num(Self::DISK_NUM_BYTES, 8, length)
             .with_num(Self::NUM_BYTES, 8, length)

@@ -8,7 +8,7 @@ ghost use Rattle.item.specs.Items.{fields, item_of, items, ranged};
 ghost use Rattle.lists.specs.Lists.{shared_sound, range_sound, item_sound, list_kept, whole_sectors, record_refusal};
 ghost use Rattle.lists.specs.Raw.{follows, turn, next, list_sized};
 
-use item::{Item, RECORD};
+use item::{Item, Kind, RECORD};
 use records::refusal::{Refusal, check};
 use records::sum_at_most;
 
@@ -43,8 +43,7 @@ fn are_marks(shared: &[u8]) -> bool
 pub fn is_ranged(item: Item) -> bool
     ensures { result ≡ ranged (fields item) }
 {
-    let kind = item.kind();
-    kind == 1 || kind == 2
+    matches!(item.kind(), Kind::Regular | Kind::Preallocated)
 }
 
 fn range_sound(item: Item) -> bool
@@ -152,8 +151,8 @@ pub fn record_refusal(item: Item) -> Result<(), Refusal>
     ensures { why result ≡ record_refusal (fields item) }
 {
     let kind = item.kind();
-    check(kind != 0, Refusal::Inline)?;
-    check(kind <= 2, Refusal::Kind)?;
+    check(kind != Kind::Inline, Refusal::Inline)?;
+    check(kind != Kind::Other, Refusal::Kind)?;
     check(
         item.encryption() == 0 && item.other() == 0,
         Refusal::Encoded,

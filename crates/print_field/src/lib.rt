@@ -94,7 +94,7 @@ fn put_item_fields(out: &mut [u8], at: usize, item: Item) -> usize
     ensures { Added (item_fields (fields item)) at out.old result out.new }
 {
     let a = put_field(out, at, b"key", item.key);
-    let b = put_field(out, a, b"kind", item.kind() as u64);
+    let b = put_field(out, a, b"kind", item.kind_byte() as u64);
     let c = put_pair(out, b, b"extent", item.extent_start(), item.extent_length());
     put_pair(out, c, b"window", item.position(), item.length())
 }

@@ -44,7 +44,7 @@ fn edits(rt: &impl Print, out: &[u8], n: usize) -> io::Result<bool> {
             item.extent_length(),
             item.position(),
             item.length(),
-            item.kind(),
+            item.kind_byte(),
             item.generation()
         )?;
     }

@@ -3,7 +3,7 @@
 use crate::draws::{draw, once_in};
 use crate::sectors::bytes_in;
 use crate::state::{self, FILES, State};
-use item::{Item, RECORD};
+use item::{Item, Kind, RECORD};
 
 // ---- a round's start
 
@@ -62,10 +62,10 @@ fn data_byte(s: &mut State, f: usize, i: usize, at: usize) -> Option<&mut u8> {
 // that is regular becomes compressed. The place in the data.
 fn written(item: Item, size: u64, x: u64) -> Option<usize> {
     let end = item.key.wrapping_add(item.length());
-    if item.kind() == 2 && (end <= size || once_in(x, 51, 16)) {
+    if item.kind() == Kind::Preallocated && (end <= size || once_in(x, 51, 16)) {
         return Some(Item::TYPE);
     }
-    if item.kind() == 1 && state::named(item).is_some() && once_in(x, 52, 64) {
+    if item.kind() == Kind::Regular && state::named(item).is_some() && once_in(x, 52, 64) {
         return Some(Item::COMPRESSION);
     }
     None

@@ -1,14 +1,14 @@
 // What a file shows at each of its first 64 sectors.
 use crate::sectors::{bytes_in, sectors_in};
 use crate::state;
-use item::Item;
+use item::{Item, Kind};
 
 // The extent's start, the position in it, and the item's kind.
 #[derive(Clone, Copy, PartialEq, Eq)]
 pub struct Shown {
     pub start: u64,
     pub position: u64,
-    pub kind: u8,
+    pub kind: Kind,
 }
 
 pub type Map = [Option<Shown>; 64];

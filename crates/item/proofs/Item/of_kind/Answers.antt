@@ -5,4 +5,4 @@ use Rattle.item.proofs.Item.of_kind.Goals as goal
 pub returns : goal.returns
 returns c = let a = c.args in
     let h : length a.self.«data» ≡ 53 = search rules in
-    (with_kind a.self _ _ a.kind (reads_self a.self h) (search rules) c.with_num.ensures).told
+    rw (← c.byte.ensures) (with_kind a.self _ _ c.byte.result (reads_self a.self h) (search rules) c.with_num.ensures).told
