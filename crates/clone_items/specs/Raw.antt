@@ -16,7 +16,6 @@ pub record InFiles (c : Copying) : Type 0 where
 
 -- an item that can be copied: with a sound range that overlaps
 pub record Copyable (c : Copying) (f : Fields) : Type 0 where
-  pub inside : InFiles c
   pub sound : range_sound f ≡ true
   pub over : overlaps c f ≡ true
 
