@@ -15,7 +15,8 @@ pub fn bytes_at<const N: usize>(s: &[u8], at: usize) -> [u8; N]
     bytes
 }
 
-// The u64 in the eight bytes from `at`.
+// The u64 in the eight bytes from `at`. A function for each width, by the port's name, as the library's `from_le_bytes` is one of each
+// type; they are one law over the width, `num`.
 pub fn le64_at(s: &[u8], at: usize) -> u64
     requires { at + 8 ≤ length s.now }
     ensures { result ≡ num 8 at s.now }
@@ -31,7 +32,7 @@ pub fn le16_at(s: &[u8], at: usize) -> u16
     u16::from_le_bytes(bytes_at(s, at))
 }
 
-// The byte at `at`.
+// The byte at `at`, as the number that one byte is: an item's one-byte numbers then read as all others do.
 pub fn le8_at(s: &[u8], at: usize) -> u8
     requires { at + 1 ≤ length s.now }
     ensures { result ≡ num 1 at s.now }
@@ -39,7 +40,8 @@ pub fn le8_at(s: &[u8], at: usize) -> u8
     s[at]
 }
 
-// The lowest w bytes of v over out, from `at`.
+// The lowest w bytes of v over out, from `at`. A loop over any w, with one law for all numbers of an item: `to_le_bytes` is one
+// of each type, as `from_le_bytes` is.
 pub fn put_num(out: &mut [u8], at: usize, w: usize, v: u64)
     requires { at + w ≤ length out.old }
     ensures { out.new ≡ put (enc w v) at out.old }

@@ -9,7 +9,7 @@ ghost use Rattle.lists.specs.Lists.{shared_sound, range_sound, item_sound, list_
 ghost use Rattle.lists.specs.Raw.{follows, turn, next, list_sized};
 
 use item::{Item, Kind, RECORD};
-use records::refusal::{Refusal, check};
+use records::refusal::{Refusal, check, size_refusal};
 use records::sum_at_most;
 
 // ---- refusals
@@ -18,8 +18,7 @@ use records::sum_at_most;
 pub fn list_size_refusal(list: &[u8]) -> Result<(), Refusal>
     ensures { why result ≡ unless (list_sized list.now) 1 }
 {
-    let n = list.len();
-    check(n % RECORD == 0 && n / RECORD <= 65536, Refusal::Broken)
+    size_refusal(list.len(), RECORD)
 }
 
 // Refusal 1 of the shared bytes: not one a record, or one that is neither 0 nor 1.

@@ -1,7 +1,7 @@
 // Why an operation is refused, by the numbers of document 01 (docs/REFERENCE.md has them in full), and stages: a function that
 // passes or gives its refusal is a stage, and `?` after each says that the first refusal counts.
 
-ghost use Rattle.std.specs.Prelude.{◌≡◌};
+ghost use Rattle.std.specs.Prelude.{◌≡◌, ◌&&◌, ◌%◌, ◌/◌, ◌<◌, eqb, leb};
 ghost use Rattle.records.specs.Refusals.{number, why};
 ghost use Rattle.records.specs.Stages.{unless};
 
@@ -103,6 +103,14 @@ pub fn check(ok: bool, refusal: Refusal) -> Result<(), Refusal>
     ensures { why result ≡ unless ok (number refusal) }
 {
     if ok { Ok(()) } else { Err(refusal) }
+}
+
+// Refusal 1 of n numbers that are to be records of `width` each: broken length, or over-long.
+pub fn size_refusal(n: usize, width: usize) -> Result<(), Refusal>
+    requires { 0 < width }
+    ensures { why result ≡ unless (eqb (n % width) 0 && leb (n / width) 65536) 1 }
+{
+    check(n % width == 0 && n / width <= 65536, Refusal::Broken)
 }
 
 // The number of a stage's refusal, or 0.

@@ -13,7 +13,7 @@ ghost use Rattle.table.specs.Raw.{row_at, row_refusal, table_sized};
 
 use item::Item;
 pub use reader::{Reader, reader_at, rows};
-use records::refusal::{Refusal, check};
+use records::refusal::{Refusal, check, size_refusal};
 
 // An extent: where it lies, how many items name it, the generation that made it, and whether its references are
 // kept as items of their own.
@@ -62,8 +62,7 @@ pub fn row_at(table: &[u64], n: usize) -> Row
 pub fn table_size_refusal(table: &[u64]) -> Result<(), Refusal>
     ensures { why result ≡ unless (table_sized table.now) 1 }
 {
-    let n = table.len();
-    check(n % WIDTH == 0 && n / WIDTH <= 65536, Refusal::Broken)
+    size_refusal(table.len(), WIDTH)
 }
 
 // Refusal 3 of one row: one that starts before `from`, has no length, ends outside 64 bits, or is not keyed by 0 or 1.
