@@ -4,6 +4,7 @@ use Rattle.item.specs.Items.{Fields, items}
 use Rattle.table.specs.declared.Row.{Row}
 use Rattle.table.specs.Rows.{rows}
 use Rattle.ref_def.specs.Drops.{InLeaf, in_leaves}
+use Rattle.cut_segment.specs.declared.RunningLeaves.{RunningLeaves}
 use Rattle.change_def.specs.Rewrites.{Ground, ground_of}
 use Rattle.change_ground.specs.declared.Ground.{Ground as Lent}
 
@@ -11,8 +12,11 @@ abbrev pub items_in : Lent → List Fields
 items_in g = items g.leaves.list.records.now
 
 -- the items, each with its shared byte
+abbrev pub running_leaves : RunningLeaves → List InLeaf
+running_leaves l = in_leaves (items l.list.records.now) l.shared.now
+
 abbrev pub leaves_in : Lent → List InLeaf
-leaves_in g = in_leaves (items_in g) g.leaves.shared.now
+leaves_in g = running_leaves g.leaves
 
 abbrev pub rows_in : Lent → List Row
 rows_in g = rows g.table.numbers.now

@@ -1,35 +1,27 @@
 -- The item that holds an offset, by the first that ends past it. Assumes nothing.
 use mathlib.Core.Path.{◌≡◌, refl, sym}
-use mathlib.Core.Bool.{Bool, true, false, cond, and-false}
+use mathlib.Core.Bool.{Bool, true, false, cond, ◌&&◌, and-false}
 use mathlib.Core.List.{List, [], ◌∷◌}
 use mathlib.Core.Option as maybe
 use mathlib.Core.Option.{none, some}
-use Prim.Native.Nat.{ℕ, suc, ◌<◌, ◌≤◌}
+use Prim.Native.Nat.{ℕ, suc, ◌+◌, ◌<◌, ◌≤◌, ◌^◌}
 use native.Mathlib.Omega.{arith}
-use lib.Dec.{leb}
+use lib.Dec.{leb, ltb}
 use lib.ListN.{length, get_or}
-use borrow.Author.Tests.{leb-true, leb-false, lt-leb, le-ltb}
+use borrow.Author.Tests.{leb-true, leb-false, lt-leb, le-ltb, le-leb, lt-ltb}
 use Rattle.std.specs.Prelude.{Option, Some}
-use Rattle.item.specs.Items.{Fields, items, end}
-use Rattle.lists.proofs.Laws.{well_kept_lem}
+use Rattle.records.proofs.Tests.{both}
+use Rattle.item.specs.Items.{Fields, fields, items, end}
+use Rattle.lists.specs.Lists.{range_sound}
 use Rattle.cut_def.specs.Mappings.{named, holds}
+use Rattle.cut_segment.specs.declared.RunningLeaves.{RunningLeaves}
 use Rattle.cut_segment.specs.Segments.{nothing, item_at, leading, ends_by, Runs}
-use Rattle.cut_segment.proofs.Segments.{kept-runs}
-use Rattle.request.specs.declared.Volume.{Volume}
-use Rattle.request.specs.declared.File.{File}
 use Rattle.ref_def.specs.Drops.{InLeaf, in_leaves}
-use Rattle.ref_def.proofs.Drops.{leaves-items}
+use Rattle.change_def.specs.declared.Rewrite.{Rewrite}
 use Rattle.change_def.specs.Rewrites.{holder_of}
-use Rattle.change_def.proofs.Fair.{Sound}
+use Rattle.change_ground.specs.Lent.{running_leaves}
 use Rattle.change_rewrites.specs.declared.Holder.{Holder}
-use Rattle.change_rewrites.specs.Raw.{holder_leaf, holder_in, lent_ground}
-
--- the records of a file that passed its checks run one behind the other
-pub sound-runs : (v : Volume) (f : File) (list shared table : List ℕ) → Sound (lent_ground v f list shared table) → length shared ≡ length (items list) → Runs 0 (items list)
-sound-runs v f list shared table s l =
-    let fs : List Fields = items list in
-    let e = leaves-items (items list) shared l in
-    kept-runs f.number (items list) (well_kept_lem f.number (items list) (rw e at s.kept)) (rw e at s.ranges)
+use Rattle.change_rewrites.specs.Raw.{holder_leaf, holder_in}
 
 module _ (o : ℕ) where
   -- one that ends at most at the offset does not hold it, nor does one that starts past it
@@ -71,21 +63,39 @@ module _ (o : ℕ) where
       go true e ih k = rw (ended f (leb-true (end f) o e)) (ih (omega arith))
       go false e ih k = absurd (omega arith)
 
+  -- the item that holds the offset does so, and has a sound range
+  pub holder_ranged : (b : ℕ) (fs : List Fields) (bs : List ℕ) (h : InLeaf) → Runs b fs → some h ≡ holder_of o (in_leaves fs bs) → (range_sound h.item ≡ true) × (holds o h.item ≡ true)
+  unfolding in_leaves holder_of
+  holder_ranged b [] bs h r e = let z : ◌≡◌ {A = ℕ} 0 1 = cc in absurd (omega arith)
+  holder_ranged b (f ∷ fs) [] h r e = let z : ◌≡◌ {A = ℕ} 0 1 = cc in absurd (omega arith)
+  holder_ranged b (f ∷ fs) (x ∷ bs) h r e = go (holds o f) refl e (λ k. holder_ranged (end f) fs bs h r.4 k)
+    where
+      go : (t : Bool) → holds o f ≡ t → some h ≡ cond t (some (record { item = f; shared = x })) (holder_of o (in_leaves fs bs)) → (some h ≡ holder_of o (in_leaves fs bs) → (range_sound h.item ≡ true) × (holds o h.item ≡ true)) → (range_sound h.item ≡ true) × (holds o h.item ≡ true)
+      go true q k ih =
+          let i : h.item ≡ f = cc in
+          let sound : range_sound f ≡ true = both (leb 1 f.length && leb (end f) (2 ^ 63)) (ltb (f.position + f.length) (2 ^ 64)) (both (leb 1 f.length) (leb (end f) (2 ^ 63)) (le-leb 1 f.length r.1) (le-leb (end f) (2 ^ 63) r.2)) (lt-ltb (f.position + f.length) (2 ^ 64) r.3) in
+          rw i (sound, q)
+      go false q k ih = ih k
+
   -- from what the calls give: i of the items end at most at the offset
-  module _ (list shared : List ℕ) (r : Runs 0 (items list)) (l : length shared ≡ length (items list)) (i : ℕ) (e : i ≡ leading (ends_by o) (items list)) where
-    pub holder-none : length (items list) ≤ i → none ≡ holder_of o (in_leaves (items list) shared)
-    holder-none h = sym (holder-nowhere (items list) shared (rw e at h))
+  module _ (l : RunningLeaves) (i : ℕ) (e : i ≡ leading (ends_by o) (items l.list.records.now)) where
+    pub holder-none : length (items l.list.records.now) ≤ i → none ≡ holder_of o (running_leaves l)
+    holder-none h = sym (holder-nowhere (items l.list.records.now) l.shared.now (rw e at h))
 
-    module _ (x : Fields) (t : Bool) (h : i < length (items list)) (q : x ≡ item_at list i) (s : t ≡ holds o x) where
-      holder_found : cond t (some (record { item = x; shared = get_or shared i 0 })) none ≡ holder_of o (in_leaves (items list) shared)
-      holder_found = rw (s, q, e) (sym (holder_here 0 (items list) shared r l (rw e at h)))
+    module _ (x : Fields) (t : Bool) (h : i < length (items l.list.records.now)) (q : x ≡ item_at l.list.records.now i) (s : t ≡ holds o x) where
+      holder_found : cond t (some (record { item = x; shared = get_or l.shared.now i 0 })) none ≡ holder_of o (running_leaves l)
+      holder_found = rw (s, q, e) (sym (holder_here 0 (items l.list.records.now) l.shared.now l.list.runs l.one_each (rw e at h)))
 
-      pub holder_stop : t ≡ true → some (record { item = x; shared = get_or shared i 0 }) ≡ holder_of o (in_leaves (items list) shared)
+      pub holder_stop : t ≡ true → some (record { item = x; shared = get_or l.shared.now i 0 }) ≡ holder_of o (running_leaves l)
       holder_stop k = rw k at holder_found
 
-      pub holder_free : t ≡ false → none ≡ holder_of o (in_leaves (items list) shared)
+      pub holder_free : t ≡ false → none ≡ holder_of o (running_leaves l)
       holder_free k = rw k at holder_found
 
--- what a search says
-pub found_some : (o : Option Holder) (h : Holder) (x : maybe.Option InLeaf) → o ≡ Some h → holder_in o ≡ x → some (holder_leaf h) ≡ x
-found_some o h x t e = rw t at e
+-- what a search says, where it finds an item
+module _ (r : Rewrite) (l : RunningLeaves) (o : Option Holder) (h : Holder) (e : o ≡ Some h) (t : holder_in o ≡ holder_of r.sector (running_leaves l)) where
+  pub found_some : some (holder_leaf h) ≡ holder_of r.sector (running_leaves l)
+  found_some = rw e at t
+
+  pub found_held : (range_sound (fields h.item) ≡ true) × (holds r.sector (fields h.item) ≡ true)
+  found_held = holder_ranged r.sector 0 (items l.list.records.now) l.shared.now (holder_leaf h) l.list.runs found_some

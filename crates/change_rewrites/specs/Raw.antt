@@ -1,24 +1,18 @@
 -- For the code only: what the structs of this crate say, in the terms of the definitions.
-use Rattle.std.specs.Prelude.{true, ◌≡◌, ◌&&◌, List, [], ◌∷◌, Option, Some, None, ℕ, ◌+◌, ◌<◌, ◌^◌, eqb, ltb}
+use Rattle.std.specs.Prelude.{List, Option, Some, None, ℕ, ◌+◌, ◌<◌, ◌^◌}
 use Rattle.std.specs.Option.{ForSome}
 use Rattle.std.proofs.Math.Option as maybe
 use Rattle.std.proofs.Math.Option.{none, some}
-use Rattle.records.specs.Stages.{unless, first_of}
 use Rattle.item.specs.Items.{Fields, fields, items, written_in_place}
-use Rattle.table.specs.declared.Row.{Row}
-use Rattle.table.specs.Rows.{rows, find, with_row}
-use Rattle.table.specs.Windows.{window_inside}
-use Rattle.lists.specs.Lists.{range_sound}
+use Rattle.table.specs.Rows.{rows}
 use Rattle.request.specs.declared.Volume.{Volume}
 use Rattle.request.specs.declared.File.{File}
-use Rattle.cut_def.specs.Mappings.{holds}
-use Rattle.cut_def.specs.Refs.{naming}
 use Rattle.ref_def.specs.Drops.{InLeaf}
 use Rattle.plan_def.specs.Plans.{Write}
 use Rattle.change_def.specs.declared.Rewrite.{Rewrite}
 use Rattle.change_def.specs.Rewrites.{Ground, ground_of, when_held, preallocated_in, position_of, write_in_place}
 use Rattle.change_rewrites.specs.declared.Holder.{Holder}
-use Rattle.change_rewrites.specs.declared.InPlace.{InPlace}
+use Rattle.change_rewrites.specs.declared.in_place.InPlace.{InPlace}
 
 -- an item with its shared byte
 abbrev pub holder_leaf : Holder → InLeaf
@@ -42,33 +36,23 @@ said_in_place (Some w) = some (w.rewrite, holder_leaf w.holder)
 abbrev pub lent_ground : Volume → File → (list shared table : List ℕ) → Ground
 lent_ground v f list shared table = ground_of v f (items list) shared (rows table)
 
--- `in_place_refusal` of what the code has: the sector, the last snapshot, the file's items and the table
-abbrev pub in_place_why : (sector snapshot : ℕ) → List Fields → List Row → Rewrite → InLeaf → ℕ
-in_place_why sector snapshot fs rows r h =
-    with_row (find h.item.extent_start rows)
-    (λ (row : Row).
-    first_of
-    (unless (window_inside (h.item.extent_start + position_of r h) sector h.item.extent_start row.length) 17
-    ∷ unless (eqb row.references (naming h.item.extent_start fs) && (ltb snapshot row.made && eqb h.shared 0)) 18
-    ∷ []))
-
 -- ---- a sector that is written in place
 
--- in the item that holds it
-abbrev pub Held : InPlace → Type 0
-Held w = (range_sound (fields w.holder.item) ≡ true) × (holds w.rewrite.sector (fields w.holder.item) ≡ true)
+-- the volume's byte that it goes to
+abbrev pub byte_of : InPlace → ℕ
+byte_of w = (fields w.holder.item).extent_start + position_of w.rewrite (holder_leaf w.holder)
 
--- to a byte of the volume that 64 bits can say
+-- one that 64 bits can say
 abbrev pub Writable : Option InPlace → Type 0
-Writable o = ForSome o (λ (w : InPlace). Held w × ((fields w.holder.item).extent_start + position_of w.rewrite (holder_leaf w.holder) < 2 ^ 64))
+Writable o = ForSome o (λ (w : InPlace). byte_of w < 2 ^ 64)
 
 -- its extent, 0 if there is none; the item over it; its write
 abbrev pub extent_of : Option InPlace → ℕ
 extent_of None = 0
 extent_of (Some w) = (fields w.holder.item).extent_start
 
-abbrev pub item_of : Volume → InPlace → Fields
-item_of v w = written_in_place (fields w.holder.item) w.rewrite.sector (v.generation + 1) (position_of w.rewrite (holder_leaf w.holder)) v.sector
+abbrev pub item_of : (generation sector : ℕ) → InPlace → Fields
+item_of generation sector w = written_in_place (fields w.holder.item) w.rewrite.sector generation (position_of w.rewrite (holder_leaf w.holder)) sector
 
 abbrev pub write_of : InPlace → Write
 write_of w = write_in_place w.rewrite (holder_leaf w.holder)
