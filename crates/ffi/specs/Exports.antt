@@ -10,7 +10,7 @@ use Rattle.request.specs.declared.Range.{Range}
 use Rattle.request.specs.declared.Numbers.{Numbers}
 use Rattle.request.specs.Answers.{Outcome, plan, nothing, refused}
 use Rattle.plan_def.specs.Plans.{Plan, told, refused_or}
-use Rattle.plan_def.specs.Outputs.{Rooms, Outs, rooms_of, left}
+use Rattle.plan_def.specs.Outputs.{Rooms, Outs, outs, rooms_of, left}
 use Rattle.clone_span.specs.declared.CloneRange.{CloneRange}
 
 -- the nine numbers of a plan: how many records each output gets, then size, bytes, and the mark for preallocation
@@ -46,6 +46,13 @@ pub record ExportedWith (file : ℕ) (o : Outcome Plan) (r : ℕ) (answer answer
 -- what an export ensures of a definition from the rooms
 abbrev pub Exported : (file : ℕ) → (Rooms → Outcome Plan) → ℕ → Slice → Both Outs Outs → Type 0
 Exported file definition r answer o = ExportedWith file (with_nine (old answer) (definition (rooms_of o.entry))) r (old answer) (new answer) o.entry o.exit
+
+-- the outputs when an export is called and when it returns: six, or a clone's four
+abbrev pub six : (edits shares unrefs releases adds writes : Slice) → Both Outs Outs
+six e s u r a w = record { entry = outs (old e) (old s) (old u) (old r) (old a) (old w); exit = outs (new e) (new s) (new u) (new r) (new a) (new w) }
+
+abbrev pub four : (edits shares unrefs releases : Slice) → Both Outs Outs
+four e s u r = record { entry = outs (old e) (old s) (old u) (old r) [] []; exit = outs (new e) (new s) (new u) (new r) [] [] }
 
 -- numbers as the structs that they stand for
 abbrev pub volume : (sector total generation snapshot : ℕ) → Volume

@@ -7,15 +7,15 @@ ghost use Rattle.std.specs.Prelude.{false, ◌≡◌, ◌≤◌, length};
 ghost use Rattle.records.specs.Lent.{old, new};
 ghost use Rattle.endian.specs.Le.{put};
 ghost use Rattle.request.specs.Answers.{said};
-ghost use Rattle.plan_def.specs.Outputs.{six, four};
 ghost use Rattle.punch_def.specs.Punch.{punch_lent};
 ghost use Rattle.fallocate_def.specs.Fallocate.{fallocate_lent};
 ghost use Rattle.clone_def.specs.Clone.{clone_lent};
-ghost use Rattle.ffi.specs.Exports.{nine, Told, Exported, volume, file, range, clone_range};
+ghost use Rattle.ffi.specs.Exports.{nine, Told, Exported, six, four, volume, file, range, clone_range};
 
 use clone_span::CloneRange;
+use plan_def::Outputs;
 use records::refusal::Refusal;
-use request::{Answer, File, Numbers, Range, Volume};
+use request::{File, Lent, Numbers, Range, Volume};
 
 // ---- what goes in and comes out
 
@@ -39,14 +39,14 @@ fn put_nine(n: Numbers, answer: &mut [u64])
 }
 
 // An answer's byte, and its numbers if it is a plan.
-fn tell(a: Answer, answer: &mut [u64]) -> u8
+fn tell(a: Result<Option<Numbers>, Refusal>, answer: &mut [u64]) -> u8
     requires { 9 ≤ length answer.old }
     ensures { Told (said a) result answer.old answer.new }
 {
     match a {
-        Answer::Refused(why) => why,
-        Answer::Nothing => 100,
-        Answer::Planned(n) => {
+        Err(refusal) => refusal.number(),
+        Ok(None) => 100,
+        Ok(Some(n)) => {
             put_nine(n, answer);
             0
         }
@@ -85,30 +85,31 @@ pub extern "C" fn zag_punch(
     if answer.len() < 9 {
         return Refusal::Room.number();
     }
-    let a = punch::punch_hole(
-        Volume {
+    let lent = Lent {
+        volume: Volume {
             sector,
             total,
             generation,
             snapshot,
         },
-        File {
+        file: File {
             number,
             size,
             nodatacow,
         },
-        Range { offset, length },
         list,
         shared,
         table,
-        places,
+    };
+    let mut out = Outputs {
         edits,
         shares,
         unrefs,
         releases,
         adds,
         writes,
-    );
+    };
+    let a = punch::punch_hole(lent, Range { offset, length }, places, &mut out);
     tell(a, answer)
 }
 
@@ -143,31 +144,31 @@ pub extern "C" fn zag_fallocate(
     if answer.len() < 9 {
         return Refusal::Room.number();
     }
-    let a = fallocate::fallocate(
-        Volume {
+    let lent = Lent {
+        volume: Volume {
             sector,
             total,
             generation,
             snapshot,
         },
-        File {
+        file: File {
             number,
             size,
             nodatacow,
         },
-        Range { offset, length },
-        keep,
         list,
         shared,
         table,
-        places,
+    };
+    let mut out = Outputs {
         edits,
         shares,
         unrefs,
         releases,
         adds,
         writes,
-    );
+    };
+    let a = fallocate::fallocate(lent, Range { offset, length }, keep, places, &mut out);
     tell(a, answer)
 }
 
@@ -203,33 +204,36 @@ pub extern "C" fn zag_clone<'a>(
     if answer.len() < 9 {
         return Refusal::Room.number();
     }
-    let a = clone::clone_range(
-        Volume {
+    let lent = Lent {
+        volume: Volume {
             sector,
             total,
             generation,
             snapshot,
         },
-        File {
+        file: File {
             number,
             size,
             nodatacow: false,
         },
-        File {
-            number: source_number,
-            size: source_size,
-            nodatacow: false,
-        },
-        own,
-        CloneRange { from, to, length },
         list,
         shared,
-        source,
         table,
+    };
+    let file = File {
+        number: source_number,
+        size: source_size,
+        nodatacow: false,
+    };
+    let mut out = Outputs {
         edits,
         shares,
         unrefs,
         releases,
-    );
+        adds: &mut [],
+        writes: &mut [],
+    };
+    let span = CloneRange { from, to, length };
+    let a = clone::clone_range(lent, file, own, source, span, &mut out);
     tell(a, answer)
 }

@@ -1,7 +1,9 @@
 // A punch or a fallocate, whichever a test asks for. Promises safety alone.
 #![tactic(auto)]
 
-use request::{Answer, File, Range, Volume};
+use plan_def::Outputs;
+use records::refusal::Refusal;
+use request::{Lent, Numbers, Range};
 
 #[derive(Clone, Copy)]
 pub enum Operation {
@@ -12,27 +14,13 @@ pub enum Operation {
 // The operation on what it is lent.
 pub fn answer_of(
     operation: Operation,
-    v: Volume,
-    f: File,
+    lent: Lent,
     r: Range,
-    list: &[u8],
-    shared: &[u8],
-    table: &[u64],
     places: &[u64],
-    edits: &mut [u8],
-    shares: &mut [u64],
-    unrefs: &mut [u64],
-    releases: &mut [u64],
-    adds: &mut [u64],
-    writes: &mut [u64],
-) -> Answer {
+    out: &mut Outputs,
+) -> Result<Option<Numbers>, Refusal> {
     match operation {
-        Operation::Punch => punch::punch_hole(
-            v, f, r, list, shared, table, places, edits, shares, unrefs, releases, adds, writes,
-        ),
-        Operation::Fallocate(keep) => fallocate::fallocate(
-            v, f, r, keep, list, shared, table, places, edits, shares, unrefs, releases, adds,
-            writes,
-        ),
+        Operation::Punch => punch::punch_hole(lent, r, places, out),
+        Operation::Fallocate(keep) => fallocate::fallocate(lent, r, keep, places, out),
     }
 }

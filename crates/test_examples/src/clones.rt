@@ -3,7 +3,8 @@ use crate::lent::{LAST_GENERATION, VOLUME, file, item, list, list_of, room, row}
 use crate::print::{self, BLANK};
 use clone_span::CloneRange;
 use item::Item;
-use request::{File, Volume};
+use plan_def::Outputs;
+use request::{File, Lent, Volume};
 use std::io;
 
 // A clone, all that it is lent, and how many bytes of room there are for edits.
@@ -27,25 +28,25 @@ fn run(rt: &impl Print, name: &str, c: Case<'_>) -> io::Result<()> {
     let mut shares = [BLANK as u64; 8];
     let mut unrefs = [BLANK as u64; 8];
     let mut releases = [BLANK as u64; 8];
-    let edits = room(&mut edits, c.edits);
-    let answer = clone::clone_range(
-        c.volume,
-        c.dst,
-        c.src,
-        c.own,
-        c.span,
-        c.list,
-        c.shared,
-        c.source,
-        c.table,
-        edits,
-        &mut shares,
-        &mut unrefs,
-        &mut releases,
-    );
+    let lent = Lent {
+        volume: c.volume,
+        file: c.dst,
+        list: c.list,
+        shared: c.shared,
+        table: c.table,
+    };
+    let mut out = Outputs {
+        edits: room(&mut edits, c.edits),
+        shares: &mut shares,
+        unrefs: &mut unrefs,
+        releases: &mut releases,
+        adds: &mut [],
+        writes: &mut [],
+    };
+    let answer = clone::clone_range(lent, c.src, c.own, c.source, c.span, &mut out);
     print!(rt; "{name}")?;
     print::answer(rt, answer)?;
-    print::outputs(rt, answer, edits, &shares, &unrefs, &releases, &[], &[])
+    print::outputs(rt, answer, &out)
 }
 
 fn span(from: u64, to: u64, length: u64) -> CloneRange {

@@ -4,7 +4,8 @@ ghost use Rattle.std.specs.Prelude.{◌≡◌, ◌+◌, ◌≤◌, length};
 
 use crate::print::{self, BLANK};
 use item::Item;
-use request::{File, Range, Volume};
+use plan_def::Outputs;
+use request::{File, Lent, Range, Volume};
 use std::io;
 use test_call::Operation;
 
@@ -112,27 +113,23 @@ pub fn run(rt: &impl Print, name: &str, c: Case<'_>) -> io::Result<()> {
     let mut releases = [BLANK as u64; 8];
     let mut adds = [BLANK as u64; 18];
     let mut writes = [BLANK as u64; 8];
-    let edits = room(&mut edits, c.edits);
-    let adds = room(&mut adds, c.adds);
-    let answer = test_call::answer_of(
-        c.operation,
-        c.volume,
-        c.file,
-        c.range,
-        c.list,
-        c.shared,
-        c.table,
-        c.places,
-        edits,
-        &mut shares,
-        &mut unrefs,
-        &mut releases,
-        adds,
-        &mut writes,
-    );
+    let lent = Lent {
+        volume: c.volume,
+        file: c.file,
+        list: c.list,
+        shared: c.shared,
+        table: c.table,
+    };
+    let mut out = Outputs {
+        edits: room(&mut edits, c.edits),
+        shares: &mut shares,
+        unrefs: &mut unrefs,
+        releases: &mut releases,
+        adds: room(&mut adds, c.adds),
+        writes: &mut writes,
+    };
+    let answer = test_call::answer_of(c.operation, lent, c.range, c.places, &mut out);
     print!(rt; "{name}")?;
     print::answer(rt, answer)?;
-    print::outputs(
-        rt, answer, edits, &shares, &unrefs, &releases, adds, &writes,
-    )
+    print::outputs(rt, answer, &out)
 }

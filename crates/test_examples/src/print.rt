@@ -1,14 +1,16 @@
 // What the program prints: an answer, the lines of its plan, and whether the outputs past the plan are still 165.
 ghost use Rattle.std.specs.Prelude.{◌<◌};
 
-use request::{Answer, Numbers};
+use plan_def::Outputs;
+use records::refusal::Refusal;
+use request::Numbers;
 use std::io;
 
 pub const BLANK: u8 = 165;
 
-pub fn answer(rt: &impl Print, answer: Answer) -> io::Result<()> {
+pub fn answer(rt: &impl Print, answer: Result<Option<Numbers>, Refusal>) -> io::Result<()> {
     match answer {
-        Answer::Planned(n) => println!(rt;
+        Ok(Some(n)) => println!(rt;
             " plan edits {} shares {} unrefs {} releases {} adds {} writes {} size {} bytes {} prealloc {}",
             n.edits,
             n.shares,
@@ -20,8 +22,8 @@ pub fn answer(rt: &impl Print, answer: Answer) -> io::Result<()> {
             n.bytes,
             n.prealloc as u8
         ),
-        Answer::Nothing => println!(rt; " nothing"),
-        Answer::Refused(why) => println!(rt; " refused {why}"),
+        Ok(None) => println!(rt; " nothing"),
+        Err(refusal) => println!(rt; " refused {}", refusal.number()),
     }
 }
 
@@ -68,25 +70,20 @@ fn lines(rt: &impl Print, word: &str, out: &[u64], n: usize, width: usize) -> io
 // The plan's lines in the six outputs, and whether all else is as it was.
 pub fn outputs(
     rt: &impl Print,
-    answer: Answer,
-    e: &[u8],
-    shares: &[u64],
-    unrefs: &[u64],
-    releases: &[u64],
-    adds: &[u64],
-    writes: &[u64],
+    answer: Result<Option<Numbers>, Refusal>,
+    out: &Outputs,
 ) -> io::Result<()> {
     let n = match answer {
-        Answer::Planned(n) => n,
+        Ok(Some(n)) => n,
         _ => NO_LINES,
     };
     let kept = [
-        edits(rt, e, n.edits)?,
-        lines(rt, "share", shares, n.shares, 2)?,
-        lines(rt, "unref", unrefs, n.unrefs, 2)?,
-        lines(rt, "release", releases, n.releases, 2)?,
-        lines(rt, "add", adds, n.adds, 3)?,
-        lines(rt, "write", writes, n.writes, 4)?,
+        edits(rt, out.edits, n.edits)?,
+        lines(rt, "share", out.shares, n.shares, 2)?,
+        lines(rt, "unref", out.unrefs, n.unrefs, 2)?,
+        lines(rt, "release", out.releases, n.releases, 2)?,
+        lines(rt, "add", out.adds, n.adds, 3)?,
+        lines(rt, "write", out.writes, n.writes, 4)?,
     ];
     if kept.iter().all(|kept| *kept) {
         println!(rt; "  rest kept")

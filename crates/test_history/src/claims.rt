@@ -1,5 +1,5 @@
 // The claims of demand 3 on the bytes, and a few more: each function passes, or gives the claim that does not hold.
-use crate::outputs::Outputs;
+use crate::outputs::Buffers;
 use records::refusal::Refusal;
 use request::Numbers;
 use test_history_state::calls::{Call, Operation};
@@ -161,7 +161,7 @@ pub fn mapping(call: Call, s: &State, was: &State) -> Result<(), Claim> {
 
 // ---- 5: for each reference, items after + unrefs + releases = items before + shares + adds
 
-pub fn balance(f: usize, n: Numbers, s: &State, was: &State, out: &Outputs) -> Result<(), Claim> {
+pub fn balance(f: usize, n: Numbers, s: &State, was: &State, out: &Buffers) -> Result<(), Claim> {
     let mut ledger = Ledger::new();
     ledger.note_items(was.list(f), true);
     ledger.note_items(s.list(f), false);
@@ -254,11 +254,11 @@ pub fn unchanged(s: &State, was: &State) -> Result<(), Claim> {
     check(s == was, Claim::Unchanged)
 }
 
-pub fn want_of_room(f: usize, n: Numbers, was: &State, why: u8) -> Result<(), Claim> {
+pub fn want_of_room(f: usize, n: Numbers, was: &State, why: Refusal) -> Result<(), Claim> {
     let records = was.item_count(f).saturating_add(n.edits);
     let rows = was.rows.saturating_add(n.adds);
     let short = RECORDS < records || ROWS < rows;
-    check(why == 27 && short, Claim::Applying)
+    check(matches!(why, Refusal::Room) && short, Claim::Applying)
 }
 
 // ---- 13: there is nothing to do only where a punch's range shows nothing, and where nothing is left to clone

@@ -1,4 +1,5 @@
-// The outputs of a call, and the parts of them that a plan fills.
+// The buffers of a call's outputs, and the parts of them that a plan fills.
+use plan_def::Outputs;
 use request::Numbers;
 use test_history_state::state::lead;
 
@@ -6,7 +7,7 @@ use test_history_state::state::lead;
 const BLANK: u8 = 165;
 
 #[derive(Clone, Copy)]
-pub struct Outputs {
+pub struct Buffers {
     pub edits: [u8; 1136],
     pub shares: [u64; 32],
     pub unrefs: [u64; 32],
@@ -28,15 +29,27 @@ fn is_blank<T: Copy + PartialEq + From<u8>>(out: &[T], n: usize, width: usize) -
         .all(|x| *x == blank)
 }
 
-impl Outputs {
-    pub fn new() -> Outputs {
-        Outputs {
+impl Buffers {
+    pub fn new() -> Buffers {
+        Buffers {
             edits: [BLANK; 1136],
             shares: [BLANK as u64; 32],
             unrefs: [BLANK as u64; 32],
             releases: [BLANK as u64; 32],
             adds: [BLANK as u64; 12],
             writes: [BLANK as u64; 16],
+        }
+    }
+
+    // The outputs that a call is lent.
+    pub fn lent(&mut self) -> Outputs<'_> {
+        Outputs {
+            edits: &mut self.edits,
+            shares: &mut self.shares,
+            unrefs: &mut self.unrefs,
+            releases: &mut self.releases,
+            adds: &mut self.adds,
+            writes: &mut self.writes,
         }
     }
 

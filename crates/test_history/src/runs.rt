@@ -1,8 +1,8 @@
 // One call: the compiled operation on the volume's bytes, with as many places as it wants, and applying.
-use crate::outputs::Outputs;
+use crate::outputs::Buffers;
 use apply::Sizes;
 use records::refusal::Refusal;
-use request::{Answer, Numbers};
+use request::{self, Numbers};
 use test_call::Operation as Ranged;
 use test_history_state::calls::{self, Call, Lent, Operation};
 use test_history_state::sectors::bytes_in;
@@ -19,77 +19,57 @@ fn free_places(taken: u64) -> [u64; 12] {
 }
 
 // The call with these places lent.
-fn attempt<'a>(
+fn attempt(
     l: Lent,
-    list: &'a [u8],
-    shared: &[u8],
-    source: &'a [u8],
-    table: &[u64],
+    lent: request::Lent,
+    source: &[u8],
     places: &[u64],
-    out: &mut Outputs,
-) -> Answer {
+    out: &mut Buffers,
+) -> Result<Option<Numbers>, Refusal> {
+    let mut out = out.lent();
     let ranged = match l.operation {
         Operation::Clone => {
-            return clone::clone_range(
-                l.volume,
-                l.dst,
-                l.src,
-                l.own,
-                l.span,
-                list,
-                shared,
-                source,
-                table,
-                &mut out.edits,
-                &mut out.shares,
-                &mut out.unrefs,
-                &mut out.releases,
-            );
+            return clone::clone_range(lent, l.src, l.own, source, l.span, &mut out);
         }
         Operation::Punch => Ranged::Punch,
         Operation::Fallocate => Ranged::Fallocate(false),
         Operation::FallocateKeep => Ranged::Fallocate(true),
     };
-    test_call::answer_of(
-        ranged,
-        l.volume,
-        l.dst,
-        l.range,
-        list,
-        shared,
-        table,
-        places,
-        &mut out.edits,
-        &mut out.shares,
-        &mut out.unrefs,
-        &mut out.releases,
-        &mut out.adds,
-        &mut out.writes,
-    )
+    test_call::answer_of(ranged, lent, l.range, places, &mut out)
 }
 
 // The call of the turn x, with one more place until their number is right.
-pub fn answer(call: Call, x: u64, s: &State, out: &mut Outputs) -> Answer {
+pub fn answer(
+    call: Call,
+    x: u64,
+    s: &State,
+    out: &mut Buffers,
+) -> Result<Option<Numbers>, Refusal> {
     let mut shared = [0u8; state::RECORDS];
     if let Some(byte) = shared.get_mut(calls::leaf_record(x)) {
         *byte = calls::leaf(x);
     }
     let places = free_places(s.taken);
-    let lent = calls::all_lent(call, x, s);
-    let list = s.list(call.file);
+    let l = calls::all_lent(call, x, s);
+    let lent = request::Lent {
+        volume: l.volume,
+        file: l.dst,
+        list: s.list(call.file),
+        shared: lead(&shared, s.item_count(call.file)),
+        table: s.rows(),
+    };
     let source = s.list(call.source);
-    let leaves = lead(&shared, s.item_count(call.file));
     for i in 0..12 {
-        let a = attempt(lent, list, leaves, source, s.rows(), &places[..i], out);
-        if request::number_of(a) != 26 {
-            return a;
+        match attempt(l, lent, source, &places[..i], out) {
+            Err(Refusal::Place) => {}
+            answer => return answer,
         }
     }
-    Answer::Refused(26)
+    Err(Refusal::Place)
 }
 
 // Applies a plan of these numbers to a file's list and to the table.
-pub fn applied(f: usize, n: Numbers, s: &mut State, out: &Outputs) -> Result<Sizes, Refusal> {
+pub fn applied(f: usize, n: Numbers, s: &mut State, out: &Buffers) -> Result<Sizes, Refusal> {
     let (sector, items, generation) = (s.sector(), s.item_count(f), s.generation.wrapping_add(1));
     let Some(list) = s.lists.get_mut(f) else {
         return Err(Refusal::Broken);

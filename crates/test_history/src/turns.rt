@@ -1,9 +1,9 @@
 // One turn of the history: a call, applying, and every claim on the bytes that are there then.
 use crate::claims::{self, Claim, check};
-use crate::outputs::Outputs;
+use crate::outputs::Buffers;
 use crate::runs;
 use apply::Sizes;
-use request::{Answer, Numbers};
+use request::Numbers;
 use test_history_state::between;
 use test_history_state::calls::{self, Call};
 use test_history_state::state::{Counts, State};
@@ -36,7 +36,7 @@ fn applied_claims(
     n: Numbers,
     s: &State,
     was: &State,
-    out: &Outputs,
+    out: &Buffers,
 ) -> Result<(), Claim> {
     claims::kept(call.file, s)?;
     claims::others_kept(call.file, s, was)?;
@@ -57,7 +57,7 @@ fn planned(
     s: &mut State,
     counts: &mut Counts,
     was: &State,
-    out: &Outputs,
+    out: &Buffers,
 ) -> Result<(), Claim> {
     match runs::applied(call.file, n, s, out) {
         Ok(sizes) => {
@@ -67,7 +67,7 @@ fn planned(
         }
         Err(why) => {
             counts.no_room = counts.no_room.wrapping_add(1);
-            claims::want_of_room(call.file, n, was, why.number())?;
+            claims::want_of_room(call.file, n, was, why)?;
             claims::unchanged(s, was)
         }
     }
@@ -96,22 +96,22 @@ fn made(
     counts: &mut Counts,
     was: &State,
 ) -> Result<(), Claim> {
-    let mut out = Outputs::new();
+    let mut out = Buffers::new();
     let answer = runs::answer(call, x, was, &mut out);
     match answer {
-        Answer::Planned(n) => {
+        Ok(Some(n)) => {
             check(out.is_past_kept(n), Claim::PastPlan)?;
             planned(call, trial, n, s, counts, was, &out)
         }
-        Answer::Nothing => {
+        Ok(None) => {
             counts.nothings = counts.nothings.wrapping_add(1);
             check(out.is_past_kept(NO_LINES), Claim::PastPlan)?;
             claims::unchanged(s, was)?;
             claims::nothing(call, was)
         }
-        Answer::Refused(why) => {
+        Err(refusal) => {
             counts.refusals = counts.refusals.wrapping_add(1);
-            if let Some(count) = counts.by_number.get_mut((why as usize).wrapping_sub(1)) {
+            if let Some(count) = counts.by_number.get_mut((refusal.number() as usize).wrapping_sub(1)) {
                 *count = count.wrapping_add(1);
             }
             check(out.is_past_kept(NO_LINES), Claim::PastPlan)?;
