@@ -17,7 +17,7 @@ use Rattle.request.specs.declared.Volume.{Volume}
 use Rattle.request.specs.declared.File.{File}
 use Rattle.request.specs.Lent.{sector_sound}
 use Rattle.request.specs.declared.Numbers.{Numbers}
-use Rattle.request.specs.declared.Answer.{Answer}
+use Rattle.request.specs.Given.{Answer}
 use Rattle.request.specs.declared.Answer.TheVariants.{Planned as planned-answer, Nothing as nothing-answer, Refused as refused-answer}
 use Rattle.request.specs.Answers.{Outcome, plan, nothing, refused}
 use Rattle.cut_def.specs.Pieces.{cut_pieces}

@@ -12,7 +12,7 @@ use Rattle.item.specs.Items.{items}
 use Rattle.table.specs.Rows.{rows}
 use Rattle.request.specs.declared.Volume.{Volume}
 use Rattle.request.specs.declared.File.{File}
-use Rattle.request.specs.declared.Answer.{Answer}
+use Rattle.request.specs.Given.{Answer}
 use Rattle.request.specs.Answers.{Outcome, plan, nothing, refused}
 use Rattle.plan_def.specs.Plans.{Plan, Add, Write}
 use Rattle.plan_def.specs.Outputs.{Rooms, Outs, add_numbers, write_numbers, laid, outs, rooms_of, left, MetWith}

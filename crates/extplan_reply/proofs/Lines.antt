@@ -9,7 +9,7 @@ use Rattle.print_line.specs.Lines.{fault_line}
 use Rattle.print_answer.specs.Printed.{shown, line_at}
 use Rattle.print_answer.proofs.Nth.{no_second}
 use Rattle.std.specs.Prelude.{Ok, Err}
-use Rattle.request.specs.declared.Answer.{Answer}
+use Rattle.request.specs.Given.{Answer}
 use Rattle.extplan_reply.specs.Replies.{answer_to, Replied}
 
 added-same : (x y : List ℕ) (d : List ℕ) (k : ℕ) (d' : List ℕ) → x ≡ y → Added x 0 d k d' → Added y 0 d k d'

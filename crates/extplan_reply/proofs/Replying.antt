@@ -14,7 +14,7 @@ use Rattle.endian.proofs.Numbers.{length-enc}
 use Rattle.item.specs.Items.{encode}
 use Rattle.item.proofs.Widths.{length-encode}
 use Rattle.plan_lines.proofs.Laws.{length-lay}
-use Rattle.request.specs.declared.Answer.{Answer}
+use Rattle.request.specs.Given.{Answer}
 use Rattle.request.specs.Answers.{Outcome}
 use Rattle.std.specs.Prelude.{Result, Ok, Err, IsErrAnd}
 use Rattle.plan_def.specs.Plans.{Plan}

@@ -13,7 +13,7 @@ use Rattle.read_input.specs.Input.{read_input}
 use Rattle.extplan_operate.specs.Operations.{operation}
 use Rattle.print_line.specs.Lines.{fault_line}
 use Rattle.print_answer.specs.Printed.{printed, shown, HoldsAnswer}
-use Rattle.request.specs.declared.Answer.{Answer}
+use Rattle.request.specs.Given.{Answer}
 
 -- the operation on what was read; "Items under a second `file` line are the clone's source", and their `shared` is not
 -- looked at

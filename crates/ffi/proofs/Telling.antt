@@ -6,7 +6,7 @@ use lib.ListN.{length}
 use borrow.Author.Tests.{le-leb, lt-leb}
 use Rattle.endian.specs.Le.{put}
 use Rattle.request.specs.declared.Numbers.{Numbers}
-use Rattle.request.specs.declared.Answer.{Answer}
+use Rattle.request.specs.Given.{Answer}
 use Rattle.request.specs.Answers.{Outcome, plan, said}
 use Rattle.plan_def.specs.Plans.{Plan, refused_or}
 use Rattle.plan_def.specs.Outputs.{Outs, MetWith}

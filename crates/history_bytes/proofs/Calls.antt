@@ -6,14 +6,13 @@ use Prim.Native.Nat.{ℕ, ◌+◌, ◌*◌, ◌/◌}
 use native.Mathlib.Omega.{arith}
 use lib.ListN.{length, take}
 use Rattle.request.specs.declared.Numbers.{Numbers}
-use Rattle.request.specs.declared.Answer.{Answer}
-use Rattle.request.specs.declared.Answer.TheVariants.{Planned, Nothing, Refused}
+use Rattle.request.specs.Given.{Answer}
+use Rattle.std.specs.Prelude.{Some, None, Ok, Err}
 use Rattle.request.specs.Answers.{Outcome, plan, nothing, refused, said}
 use Rattle.plan_def.specs.Plans.{Plan, numbers, told}
 use Rattle.plan_def.specs.Outputs.{Rooms, Outs, rooms_of, left}
 use Rattle.apply_def.specs.Apply.{Applying, applied, refusal}
 use Rattle.apply_def.specs.Lent.{Parts, apply_lent}
-use Rattle.std.specs.Prelude.{Ok, Err}
 use Rattle.apply.specs.Outcomes.{Applied, MetApplyingWith}
 use Rattle.history_theorem.specs.Calls.{Call, Lent, lent_of}
 use Rattle.history_bytes.specs.StoredState.{StoredState, Buffers, BytesCall, bytes_of, with_bytes, answer_from, list_lent, table_lent, applying_lent, stored_after, step_lent_of, step_lent, run_lent, Whole, AllLendable, OfBytes}
@@ -51,15 +50,15 @@ called_step sector s c b t h =
     (go h.answer (answer_from sector s c (rooms_of b.outputs)) h.outputs h.met.answer h.met.outputs h.done)
   where
     go : (a : Answer) (o : Outcome Plan) (outs : Outs) → said a ≡ told o → outs ≡ left (lent_of c).number o b.outputs → DoneWith sector s (lent_of c) b outs t a → t ≡ step_lent_of sector s c b o
-    go (Planned n) (plan p) outs e q d = done-same sector s (lent_of c) b p n outs t (cc) q d
-    go (Planned n) nothing outs e q d = let z : ◌≡◌ {A = ℕ} 0 1 = cc in absurd (omega arith)
-    go (Planned n) (refused m) outs e q d = let z : ◌≡◌ {A = ℕ} 0 1 = cc in absurd (omega arith)
-    go Nothing (plan p) outs e q d = let z : ◌≡◌ {A = ℕ} 0 1 = cc in absurd (omega arith)
-    go Nothing nothing outs e q d = d
-    go Nothing (refused m) outs e q d = let z : ◌≡◌ {A = ℕ} 0 1 = cc in absurd (omega arith)
-    go (Refused n) (plan p) outs e q d = let z : ◌≡◌ {A = ℕ} 0 1 = cc in absurd (omega arith)
-    go (Refused n) nothing outs e q d = let z : ◌≡◌ {A = ℕ} 0 1 = cc in absurd (omega arith)
-    go (Refused n) (refused m) outs e q d = d
+    go (Ok (Some n)) (plan p) outs e q d = done-same sector s (lent_of c) b p n outs t (cc) q d
+    go (Ok (Some n)) nothing outs e q d = let z : ◌≡◌ {A = ℕ} 0 1 = cc in absurd (omega arith)
+    go (Ok (Some n)) (refused m) outs e q d = let z : ◌≡◌ {A = ℕ} 0 1 = cc in absurd (omega arith)
+    go (Ok None) (plan p) outs e q d = let z : ◌≡◌ {A = ℕ} 0 1 = cc in absurd (omega arith)
+    go (Ok None) nothing outs e q d = d
+    go (Ok None) (refused m) outs e q d = let z : ◌≡◌ {A = ℕ} 0 1 = cc in absurd (omega arith)
+    go (Err e') (plan p) outs e q d = let z : ◌≡◌ {A = ℕ} 0 1 = cc in absurd (omega arith)
+    go (Err e') nothing outs e q d = let z : ◌≡◌ {A = ℕ} 0 1 = cc in absurd (omega arith)
+    go (Err e') (refused m) outs e q d = d
 
 -- calls one behind the other are the run
 pub called_run : (sector : ℕ) (s : StoredState) (cs : List BytesCall) (t : StoredState) → AllCalled sector s cs t → (t ≡ run_lent sector s cs) × AllLendable sector s cs

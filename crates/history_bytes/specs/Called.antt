@@ -1,9 +1,8 @@
 -- The calls of demand 3 as a caller of the code makes them: the operation, whose contract is `Met`, and applying, whose contract is
 -- `MetApplying`, with nothing known of either but its contract.
-use Rattle.std.specs.Prelude.{Ok, Err, List, [], ◌∷◌, ◌≡◌, ℕ, ◌+◌, ◌*◌, ◌/◌, length, take}
+use Rattle.std.specs.Prelude.{Option, Some, None, Ok, Err, List, [], ◌∷◌, ◌≡◌, ℕ, ◌+◌, ◌*◌, ◌/◌, length, take}
 use Rattle.request.specs.declared.Numbers.{Numbers}
-use Rattle.request.specs.declared.Answer.{Answer}
-use Rattle.request.specs.declared.Answer.TheVariants.{Planned, Nothing, Refused}
+use Rattle.request.specs.Given.{Answer}
 use Rattle.plan_def.specs.Outputs.{Outs, rooms_of, MetWith}
 use Rattle.apply_def.specs.Lent.{Parts, apply_lent}
 use Rattle.apply.specs.Outcomes.{Applied, MetApplyingWith}
@@ -40,9 +39,9 @@ pub record AppliedBy (sector : ℕ) (s : StoredState) (l : Lent) (b : Buffers) (
 
 -- what is done with an answer: a plan is applied; nothing to do, and a refusal, leave all as it was
 abbrev pub DoneWith : ℕ → StoredState → Lent → Buffers → Outs → StoredState → Answer → Type 0
-DoneWith sector s l b o t (Planned n) = AppliedBy sector s l b n o t
-DoneWith sector s l b o t Nothing = t ≡ s
-DoneWith sector s l b o t (Refused n) = t ≡ s
+DoneWith sector s l b o t (Ok (Some n)) = AppliedBy sector s l b n o t
+DoneWith sector s l b o t (Ok None) = t ≡ s
+DoneWith sector s l b o t (Err e) = t ≡ s
 
 -- one call: what the operation answers and leaves in its outputs is what its contract says (of a clone adds and writes are empty)
 pub record Called (sector : ℕ) (s : StoredState) (c : Call) (b : Buffers) (t : StoredState) : Type 0 where

@@ -5,7 +5,7 @@ use Prim.Native.Nat.{ℕ, ◌-◌, ◌*◌, ◌≤◌, ◌<◌}
 use lib.ListN.{drop}
 use Rattle.records.specs.Records.{chunks}
 use Rattle.request.specs.declared.Numbers.{Numbers}
-use Rattle.request.specs.declared.Answer.{Answer}
+use Rattle.request.specs.Given.{Answer}
 use Rattle.request.specs.Answers.{Outcome, plan, nothing, refused, said}
 use Rattle.plan_def.specs.Outputs.{Outs, outs}
 use Rattle.plan_def.specs.ReadBack.{edit_in, ref_in, add_in, write_in}

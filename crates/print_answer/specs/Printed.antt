@@ -2,7 +2,7 @@
 use Rattle.std.specs.Prelude.{List, [], ◌∷◌, ◌++◌, map, ℕ, ◌*◌, ◌≤◌, length, get_or}
 use Rattle.records.specs.Records.{chunks}
 use Rattle.request.specs.declared.Numbers.{Numbers}
-use Rattle.request.specs.declared.Answer.{Answer}
+use Rattle.request.specs.Given.{Answer}
 use Rattle.request.specs.Answers.{Outcome, plan, nothing, refused, said}
 use Rattle.plan_def.specs.Plans.{Plan}
 use Rattle.plan_def.specs.Outputs.{Outs}

@@ -12,7 +12,7 @@ use Rattle.records.specs.Records.{chunks}
 use Rattle.records.specs.Stages.{every}
 use Rattle.records.proofs.Tests.{both_left, both_right}
 use Rattle.records.proofs.Lists.{every_true}
-use Rattle.request.specs.declared.Answer.{Answer}
+use Rattle.request.specs.Given.{Answer}
 use Rattle.request.specs.Answers.{Outcome, plan, nothing, refused, said}
 use Rattle.plan_def.specs.Plans.{Plan, numbers}
 use Rattle.plan_def.specs.Outputs.{Outs, MetWith, laid, left, edit_bytes, ref_numbers, add_numbers, write_numbers}

@@ -7,7 +7,7 @@ use Rattle.endian.specs.Le.{Bytes}
 use Rattle.request.specs.declared.Volume.{Volume}
 use Rattle.request.specs.declared.File.{File}
 use Rattle.request.specs.declared.Range.{Range}
-use Rattle.request.specs.declared.Answer.{Answer}
+use Rattle.request.specs.Given.{Answer}
 use Rattle.plan_def.specs.Outputs.{Outs, Rooms, MetWith}
 use Rattle.punch_def.specs.Punch.{punch_lent}
 use Rattle.fallocate_def.specs.Fallocate.{fallocate_lent}
