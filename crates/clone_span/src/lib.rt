@@ -85,7 +85,7 @@ fn destination_record(item: Item) -> Result<(), Refusal>
     check(kind != Kind::Other, Refusal::Kind)
 }
 
-// Refusals 7 and 8, record by record.
+// Refusals 7 and 8, record by record. Why it is a loop of its own says `lists::records_refusal`.
 pub fn destination_records(list: &[u8]) -> Result<(), Refusal>
     ensures { why result ≡ stage destination_record (items list.now) }
 {

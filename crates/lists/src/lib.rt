@@ -158,7 +158,8 @@ pub fn record_refusal(item: Item) -> Result<(), Refusal>
     )
 }
 
-// Refusals 7, 8 and 9, record by record.
+// Refusals 7, 8 and 9, record by record. A loop of its own, as `clone_span::destination_records` is: one function over the test, or
+// `try_for_each`, wants of each caller a proof of what its test answers at every call; the loop's invariant is one equation.
 pub fn records_refusal(list: &[u8]) -> Result<(), Refusal>
     ensures { why result ≡ stage record_refusal (items list.now) }
 {

@@ -1,4 +1,5 @@
-// A reader walks a lent table from row to row: `for row in rows(table)`.
+// A reader walks a lent table from row to row: `for row in rows(table)`. It is `item::Reader` over numbers in place of bytes: one over
+// both would go by a trait that says a record's width, of what numbers it is and what it decodes to, with laws of these for each.
 
 ghost use Rattle.std.specs.Prelude.{◌≡◌, ◌+◌, ◌*◌, ◌^◌, ◌<◌, ◌≤◌, length, drop};
 ghost use Rattle.std.specs.Iterator.{YieldsFirst, item_count};
