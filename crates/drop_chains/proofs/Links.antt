@@ -1,6 +1,6 @@
 -- Drops chained by row: an item put before its chain, and what the chains of all rows say. Assumes nothing.
 use mathlib.Core.Path.{◌≡◌, refl, ap, ap₂, ◌∙◌, sym}
-use mathlib.Core.Bool.{Bool, true, false, cond, not, and-false}
+use mathlib.Core.Bool.{Bool, true, false, cond, and-false}
 use mathlib.Core.List.{List, [], ◌∷◌, ◌++◌, map, flat_map}
 use Prim.Native.Nat.{ℕ, zero, suc, ◌+◌, ◌*◌, ◌/◌, ◌<◌, ◌≤◌}
 use native.Mathlib.Omega.{arith}
@@ -20,14 +20,14 @@ use Rattle.table.specs.declared.Row.{Row}
 use Rattle.table.specs.Rows.{row_of, rows, table_kept, find}
 use Rattle.table.proofs.Laws.{kept_rising, found_below, found_row, found_start, missing-none, rows_at, rows-length, rows-rest}
 use Rattle.cut_def.specs.Refs.{Ref}
-use Rattle.ref_def.specs.Drops.{InLeaf, in_leaves, drops_of, lines, released, releases, unrefs}
+use Rattle.ref_def.specs.Drops.{InLeaf, in_leaves, drops_of, releases, unrefs}
 use Rattle.ref_def.proofs.Drops.{leaves-length}
 use Rattle.plan_lines.specs.Lines.{Laid}
 use Rattle.plan_lines.proofs.Laws.{Going, going_first, going_done}
 use Rattle.std.specs.declared.ops.Range.{Range}
-use Rattle.drop_chains.specs.Chains.{leader, Chain, freed, line_in, chain_lines}
+use Rattle.drop_chains.specs.Chains.{leader, Chain, freed, line_in, unref_lines, release_lines}
 use Rattle.drop_chains.specs.Links.{drops_by, drop_at, wider, Blank, Linked}
-use Rattle.drop_chains.proofs.Walks.{lead_yes, lead_no, lead_nil, lead_none, chain_empty}
+use Rattle.drop_chains.proofs.Walks.{lead_yes, lead_no, lead_nil, lead_none}
 
 -- ---- which row a drop is of
 
@@ -200,8 +200,9 @@ module _ {B : Type 0} (g : Row → List B) (t : List ℕ) (n : ℕ) where
 
 -- ---- the lines of a row by the chain of its drops
 
-abbrev pub row_chain : (Fields → Bool) → Bool → List InLeaf → Row → List Ref
-row_chain dropped release hs row = chain_lines release row.references (keep (drop_at dropped row.start) hs)
+-- the lines that it gives of one kind, from its references and its drops
+abbrev pub row_chain : (ℕ → List InLeaf → List Ref) → (Fields → Bool) → List InLeaf → Row → List Ref
+row_chain kind dropped hs row = kind row.references (keep (drop_at dropped row.start) hs)
 
 flat_same : {A B : Type 0} (f g : A → List B) → ((a : A) → f a ≡ g a) → (l : List A) → flat_map f l ≡ flat_map g l
 unfolding flat_map
@@ -212,38 +213,44 @@ module _ (dropped : Fields → Bool) (hs : List InLeaf) where
   pub drops-at : (start : ℕ) → drops_of start (drops_by dropped hs) ≡ keep (drop_at dropped start) hs
   drops-at start = keep-keep (λ (d : InLeaf). eqb d.item.extent_start start) (λ (d : InLeaf). dropped d.item) hs
 
-  release_row : (row : Row) → cond (released (drops_by dropped hs) row) (lines row.start (drops_by dropped hs)) [] ≡ row_chain dropped true hs row
-  release_row row = rw (drops-at row.start) refl
+  pub releases_chained : (rs : List Row) → releases rs (drops_by dropped hs) ≡ flat_map (row_chain release_lines dropped hs) rs
+  releases_chained rs = flat_same _ (row_chain release_lines dropped hs) (λ row. rw (drops-at row.start) refl) rs
 
-  unref_row : (row : Row) → cond (released (drops_by dropped hs) row) [] (lines row.start (drops_by dropped hs)) ≡ row_chain dropped false hs row
-  unref_row row = rw (drops-at row.start) (go (freed row.references (keep (drop_at dropped row.start) hs)) (map line_in (keep (drop_at dropped row.start) hs)))
-    where
-      go : (b : Bool) (l : List Ref) → cond b [] l ≡ cond (not b) l []
-      go true l = refl
-      go false l = refl
+  pub unrefs_chained : (rs : List Row) → unrefs rs (drops_by dropped hs) ≡ flat_map (row_chain unref_lines dropped hs) rs
+  unrefs_chained rs = flat_same _ (row_chain unref_lines dropped hs) (λ row. rw (drops-at row.start) refl) rs
 
-  -- all rows
-  pub rows_chained : (release : Bool) (rs : List Row) → cond release (releases rs (drops_by dropped hs)) (unrefs rs (drops_by dropped hs)) ≡ flat_map (row_chain dropped release hs) rs
-  rows_chained true rs = flat_same _ (row_chain dropped true hs) release_row rs
-  rows_chained false rs = flat_same _ (row_chain dropped false hs) unref_row rs
+-- a chain without a drop has no line
+pub no_release : (n : ℕ) → release_lines n [] ≡ []
+no_release n = go (freed n [])
+  where
+    go : (b : Bool) → cond b (map line_in []) [] ≡ []
+    go true = refl
+    go false = refl
 
-module _ (dropped : Fields → Bool) (release : Bool) (t : List ℕ) (hs : List InLeaf) (heads nexts : List ℕ) (s : Range ℕ) (done : Linked dropped (rows t) hs 0 heads nexts s) where
-  no_lines : (k : ℕ) → k < length t / 5 → get_or heads k 0 ≡ 0 → row_chain dropped release hs (row_of (drop (k * 5) t)) ≡ []
+pub no_unref : (n : ℕ) → unref_lines n [] ≡ []
+no_unref n = go (freed n [])
+  where
+    go : (b : Bool) → cond b [] (map line_in []) ≡ []
+    go true = refl
+    go false = refl
+
+module _ (kind : ℕ → List InLeaf → List Ref) (none : (n : ℕ) → kind n [] ≡ []) (dropped : Fields → Bool) (t : List ℕ) (hs : List InLeaf) (heads nexts : List ℕ) (s : Range ℕ) (done : Linked dropped (rows t) hs 0 heads nexts s) where
+  no_lines : (k : ℕ) → k < length t / 5 → get_or heads k 0 ≡ 0 → row_chain kind dropped hs (row_of (drop (k * 5) t)) ≡ []
   no_lines k h z =
       let row = row_of (drop (k * 5) t) in
       let first = (chain_of dropped t hs heads nexts s done k row (get_or heads k 0) h refl refl).starts in
-      chain_empty release row.references _ (lead_none (drop_at dropped row.start) hs 0 (sym first ∙ z))
+      ap (kind row.references) (lead_none (drop_at dropped row.start) hs 0 (sym first ∙ z)) ∙ none row.references
 
   -- a loop over the range's rows, as it starts and as it ends
-  pub span-first : (f : Ref → List ℕ) (v n : ℕ) (out : List ℕ) (k : ℕ) → s.start ≡ k → Going f v n (flat_map (row_chain dropped release hs) (rows t)) out n (flat_map (row_chain dropped release hs) (rest row_of 5 t (length t / 5) k)) out
+  pub span-first : (f : Ref → List ℕ) (v n : ℕ) (out : List ℕ) (k : ℕ) → s.start ≡ k → Going f v n (flat_map (row_chain kind dropped hs) (rows t)) out n (flat_map (row_chain kind dropped hs) (rest row_of 5 t (length t / 5) k)) out
   span-first f v n out k q =
-      let g = row_chain dropped release hs in
+      let g = row_chain kind dropped hs in
       let e : flat_map g (rows t) ≡ flat_map g (rest row_of 5 t (length t / 5) s.start) =
       ap (flat_map g) (sym (rows-rest t)) ∙ rows_skip g t (length t / 5) s.start (omega (arith, done.low, rows-length t)) (λ j m. no_lines j (omega (arith, done.low, rows-length t)) (done.before j m)) in
       rw (← q, ← e) (going_first f v n (flat_map g (rows t)) out)
 
-  pub span-done : (f : Ref → List ℕ) (v n₀ : ℕ) (all : List Ref) (out₀ : List ℕ) (n : ℕ) (out : List ℕ) (k : ℕ) → s.end ≤ k → Going f v n₀ all out₀ n (flat_map (row_chain dropped release hs) (rest row_of 5 t (length t / 5) k)) out → Laid f v n₀ all out₀ n out
+  pub span-done : (f : Ref → List ℕ) (v n₀ : ℕ) (all : List Ref) (out₀ : List ℕ) (n : ℕ) (out : List ℕ) (k : ℕ) → s.end ≤ k → Going f v n₀ all out₀ n (flat_map (row_chain kind dropped hs) (rest row_of 5 t (length t / 5) k)) out → Laid f v n₀ all out₀ n out
   span-done f v n₀ all out₀ n out k h going =
-      let g = row_chain dropped release hs in
+      let g = row_chain kind dropped hs in
       let e : flat_map g (rest row_of 5 t (length t / 5) k) ≡ [] = rows_empty g t (length t / 5) (length t / 5) k (omega arith) (λ j p q. no_lines j q (done.behind j (omega arith) (omega (arith, rows-length t)))) in
       going_done f v n₀ all out₀ n out (rw e at going)

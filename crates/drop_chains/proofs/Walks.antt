@@ -1,6 +1,6 @@
 -- Laws of chains: what a walk along one takes, counts and lays. Assumes nothing.
 use mathlib.Core.Path.{◌≡◌, refl, ap, ap₂, ◌∙◌, sym}
-use mathlib.Core.Bool.{Bool, true, false, cond, ◌&&◌, not, and-true, and_assoc}
+use mathlib.Core.Bool.{Bool, true, false, ◌&&◌, and-true, and_assoc}
 use mathlib.Core.List.{List, [], ◌∷◌, map}
 use Prim.Native.Nat.{ℕ, zero, suc, ◌+◌, ◌-◌, ◌*◌, ◌/◌, ◌<◌, ◌≤◌}
 use native.Mathlib.Omega.{arith}
@@ -17,7 +17,7 @@ use Rattle.ref_def.specs.Drops.{InLeaf, in_leaves}
 use Rattle.ref_def.proofs.Drops.{leaves-length}
 use Rattle.plan_lines.specs.Lines.{Laid}
 use Rattle.plan_lines.proofs.Laws.{Going, going-turn, going_done}
-use Rattle.drop_chains.specs.Chains.{leader, Chain, unshared, freed, line_in, chain_lines}
+use Rattle.drop_chains.specs.Chains.{leader, Chain, unshared, freed, line_in, unref_lines, release_lines}
 
 module _ {A : Type 0} (p : A → Bool) where
   -- ---- the first that passes
@@ -169,24 +169,14 @@ module _ (f : Ref → List ℕ) (n₀ : ℕ) (all : List Ref) (out₀ : List ℕ
   pub chain_turn : (m : ℕ) (out' : List ℕ) → Laid f 2 n (line_in d ∷ []) out m out' → Going f 2 n₀ all out₀ m (map line_in rest) out'
   chain_turn m out' l = going-turn f 2 n₀ all out₀ n (line_in d ∷ []) (map line_in rest) out m out' (rw e at going) l
 
--- ---- the lines that are asked for
+-- ---- lines of one kind that there are none of
 
-module _ (release : Bool) (references : ℕ) (ds : List InLeaf) (u t : Bool) (e : u ≡ freed references ds) (h : t ≡ cond release u (not u)) where
-  pub chain_some : t ≡ true → chain_lines release references ds ≡ map line_in ds
-  chain_some z = rw (← e, ← h, z) refl
+module _ (references : ℕ) (ds : List InLeaf) (b : Bool) (e : b ≡ freed references ds) where
+  pub freed_unrefs : b ≡ true → unref_lines references ds ≡ []
+  freed_unrefs h = rw (sym e ∙ h) refl
 
-  pub chain_none : t ≡ false → chain_lines release references ds ≡ []
-  chain_none z = rw (← e, ← h, z) refl
-
-pub chain_empty : (release : Bool) (references : ℕ) (ds : List InLeaf) → ds ≡ [] → chain_lines release references ds ≡ []
-chain_empty release references ds e = rw e (go (cond release (freed references []) (not (freed references []))))
-  where
-    none : List Ref
-    none = []
-
-    go : (b : Bool) → cond b none none ≡ none
-    go true = refl
-    go false = refl
+  pub held_releases : b ≡ false → release_lines references ds ≡ []
+  held_releases h = rw (sym e ∙ h) refl
 
 -- ---- walks along a chain
 

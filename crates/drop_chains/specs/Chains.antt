@@ -1,5 +1,5 @@
 -- For the code only: a chain of items of a list, through an array of numbers: a number is an index and one more, and 0 is none.
-use Rattle.std.specs.Prelude.{Bool, true, cond, ◌&&◌, not, List, [], ◌∷◌, map, ◌≡◌, ℕ, ◌+◌, ◌≤◌, ◌<◌, eqb, length, get_or, drop}
+use Rattle.std.specs.Prelude.{Bool, true, cond, ◌&&◌, List, [], ◌∷◌, map, ◌≡◌, ℕ, ◌+◌, ◌≤◌, ◌<◌, eqb, length, get_or, drop}
 use Rattle.records.specs.Stages.{every}
 use Rattle.cut_def.specs.Refs.{Ref, ref_of}
 use Rattle.ref_def.specs.Drops.{InLeaf}
@@ -26,6 +26,9 @@ freed references ds = eqb references (length ds) && every unshared ds
 abbrev pub line_in : InLeaf → Ref
 line_in d = ref_of d.item
 
--- their lines, if they free it or not, as is asked
-abbrev pub chain_lines : Bool → ℕ → List InLeaf → List Ref
-chain_lines release references ds = cond (cond release (freed references ds) (not (freed references ds))) (map line_in ds) []
+-- their lines: releases if they free it, else unrefs
+abbrev pub release_lines : ℕ → List InLeaf → List Ref
+release_lines references ds = cond (freed references ds) (map line_in ds) []
+
+abbrev pub unref_lines : ℕ → List InLeaf → List Ref
+unref_lines references ds = cond (freed references ds) [] (map line_in ds)

@@ -3,35 +3,37 @@
 // as half the memory is half the time to zero it.
 #![tactic(auto)]
 
-ghost use Rattle.std.specs.Prelude.{◌≡◌, Bool, true, cond, not, [], ◌∷◌, map, ◌+◌, ◌*◌, ◌/◌, ◌<◌, ◌^◌, length, drop};
+ghost use Rattle.std.specs.Prelude.{◌≡◌, Bool, [], ◌∷◌, map, ◌+◌, ◌*◌, ◌/◌, ◌<◌, ◌^◌, length, drop};
 ghost use Rattle.records.specs.Lent.{old, new};
 ghost use Rattle.records.specs.Select.{keep};
-ghost use Rattle.item.specs.Items.{Fields, fields, decode, items};
-ghost use Rattle.table.specs.Rows.{rows, table_kept};
+ghost use Rattle.item.specs.Items.{Fields, fields, decode};
+ghost use Rattle.table.specs.Rows.{rows};
 ghost use Rattle.cut_def.specs.Refs.{ref_of};
 ghost use Rattle.plan_def.specs.Outputs.{ref_numbers};
 ghost use Rattle.plan_lines.specs.Lines.{Laid};
-ghost use Rattle.ref_def.specs.Drops.{InLeaf, in_leaves, releases, unrefs};
-ghost use Rattle.drop_chains.specs.Chains.{Chain, freed, line_in, chain_lines};
+ghost use Rattle.ref_def.specs.Drops.{InLeaf, releases as all_releases, unrefs as all_unrefs};
+ghost use Rattle.ref_def.specs.Lent.{leaves_of};
+ghost use Rattle.drop_chains.specs.Chains.{Chain, freed, line_in, unref_lines, release_lines};
 ghost use Rattle.drop_chains.specs.Links.{wider, drops_by, Linked};
 
 use item::Item;
+use ref_def::Leaves;
 use std::ops::Range;
+use table::Table;
 
-// Whether lines of the kind that is asked for are given.
-pub fn is_asked(release: bool, released: bool) -> bool
-    ensures { result ≡ cond release released (not released) }
-{
-    release == released
+// How many lines of drops there are: unrefs, and releases.
+#[derive(Clone, Copy)]
+pub struct DropCounts {
+    pub unrefs: usize,
+    pub releases: usize,
 }
 
 // Whether the drops of a chain free their extent. `at` is behind the last that was seen. The walk stands here and in put_all as a
 // loop, and is no iterator: a `for` would ask of every chain that it ends, and that a chain ends is no fact of its arrays, but of
 // the list that they were made from, which only the contract names.
-fn is_freed(references: u64, list: &[u8], shared: &[u8], nexts: &[u32], head: usize) -> bool
-    requires shared_len { length shared.now ≡ length (items list.now) }
-    requires chain { (p : InLeaf → Bool) × Chain p (in_leaves (items list.now) shared.now) nexts.now head }
-    ensures { (p : InLeaf → Bool) → Chain p (in_leaves (items list.now) shared.now) nexts.now head → result ≡ freed references (keep p (in_leaves (items list.now) shared.now)) }
+fn is_freed(references: u64, leaves: Leaves, nexts: &[u32], head: usize) -> bool
+    requires { (p : InLeaf → Bool) × Chain p (leaves_of leaves) nexts.now head }
+    ensures { (p : InLeaf → Bool) → Chain p (leaves_of leaves.entry) nexts.now head → result ≡ freed references (keep p (leaves_of leaves.entry)) }
 {
     let mut at = 0;
     let mut h = head;
@@ -39,7 +41,7 @@ fn is_freed(references: u64, list: &[u8], shared: &[u8], nexts: &[u32], head: us
     let mut free = true;
     while h != 0 {
         drops += 1;
-        free &= shared[h - 1] == 0;
+        free &= leaves.shared[h - 1] == 0;
         at = h;
         h = nexts[h - 1] as usize;
     }
@@ -57,52 +59,45 @@ fn put_drop(item: Item, out: &mut [u64], n: usize) -> usize
 }
 
 // A line for each drop of a chain.
-fn put_all(
-    list: &[u8],
-    shared: &[u8],
-    nexts: &[u32],
-    head: usize,
-    out: &mut [u64],
-    n: usize,
-) -> usize
-    requires shared_len { length shared.now ≡ length (items list.now) }
-    requires chain { (p : InLeaf → Bool) × Chain p (in_leaves (items list.now) shared.now) nexts.now head × (n + length (keep p (in_leaves (items list.now) shared.now)) < 2 ^ 64) }
-    ensures { (p : InLeaf → Bool) → Chain p (in_leaves (items list.now) shared.now) nexts.now head → Laid ref_numbers 2 n (map line_in (keep p (in_leaves (items list.now) shared.now))) out.old result out.new }
+fn put_all(leaves: Leaves, nexts: &[u32], head: usize, out: &mut [u64], n: usize) -> usize
+    requires { (p : InLeaf → Bool) × Chain p (leaves_of leaves) nexts.now head × (n + length (keep p (leaves_of leaves)) < 2 ^ 64) }
+    ensures { (p : InLeaf → Bool) → Chain p (leaves_of leaves.entry) nexts.now head → Laid ref_numbers 2 n (map line_in (keep p (leaves_of leaves.entry))) out.old result out.new }
 {
     let mut at = 0;
     let mut h = head;
     let mut m = n;
     while h != 0 {
-        m = put_drop(item::item_at(list, h - 1), out, m);
+        m = put_drop(item::item_at(leaves.list, h - 1), out, m);
         at = h;
         h = nexts[h - 1] as usize;
     }
     m
 }
 
-// The lines of a chain, if its drops free their extent or not, as is asked.
+// The lines of a chain: releases if its drops free their extent, else unrefs.
 pub fn put_chain(
-    release: bool,
     references: u64,
-    list: &[u8],
-    shared: &[u8],
+    leaves: Leaves,
     nexts: &[u32],
     head: usize,
-    out: &mut [u64],
-    n: usize,
-) -> usize
-    requires shared_len { length shared.now ≡ length (items list.now) }
-    requires chain { (p : InLeaf → Bool) × Chain p (in_leaves (items list.now) shared.now) nexts.now head × (n + length (chain_lines release references (keep p (in_leaves (items list.now) shared.now))) < 2 ^ 64) }
-    ensures { (p : InLeaf → Bool) → Chain p (in_leaves (items list.now) shared.now) nexts.now head
-        → Laid ref_numbers 2 n (chain_lines release references (keep p (in_leaves (items list.now) shared.now))) out.old result out.new }
+    unrefs: &mut [u64],
+    releases: &mut [u64],
+    at: DropCounts,
+) -> DropCounts
+    requires { (p : InLeaf → Bool) × Chain p (leaves_of leaves) nexts.now head
+        × (at.unrefs + length (unref_lines references (keep p (leaves_of leaves))) < 2 ^ 64)
+        × (at.releases + length (release_lines references (keep p (leaves_of leaves))) < 2 ^ 64) }
+    ensures unrefs { (p : InLeaf → Bool) → Chain p (leaves_of leaves.entry) nexts.now head
+        → Laid ref_numbers 2 at.unrefs (unref_lines references (keep p (leaves_of leaves.entry))) unrefs.old result.unrefs unrefs.new }
+    ensures releases { (p : InLeaf → Bool) → Chain p (leaves_of leaves.entry) nexts.now head
+        → Laid ref_numbers 2 at.releases (release_lines references (keep p (leaves_of leaves.entry))) releases.old result.releases releases.new }
 {
-    if head == 0 {
-        return n;
+    if is_freed(references, leaves, nexts, head) {
+        let n = put_all(leaves, nexts, head, releases, at.releases);
+        return DropCounts { releases: n, ..at };
     }
-    if is_asked(release, is_freed(references, list, shared, nexts, head)) {
-        return put_all(list, shared, nexts, head, out, n);
-    }
-    n
+    let n = put_all(leaves, nexts, head, unrefs, at.unrefs);
+    DropCounts { unrefs: n, ..at }
 }
 
 // ---- the chains of all rows
@@ -118,25 +113,23 @@ fn widened(s: Range<usize>, k: usize) -> Range<usize>
 // Item i put before the chain of its row, if it is dropped and has a row.
 pub fn link_item(
     dropped: bool,
-    list: &[u8],
-    shared: &[u8],
-    table: &[u64],
+    leaves: Leaves,
+    table: Table,
     i: usize,
     heads: &mut [u32],
     nexts: &mut [u32],
     range: Range<usize>,
 ) -> Range<usize>
-    requires table_value { table_kept (rows table.now) ≡ true }
-    requires shared_len { (length shared.now ≡ length (items list.now)) × (i < length list.now / 70) }
-    requires linked { (p : Fields → Bool) × Linked p (rows table.now) (in_leaves (items list.now) shared.now) (i + 1) heads.old nexts.old range }
-    ensures { (p : Fields → Bool) → dropped ≡ p (decode (drop (i * 70) list.now)) → Linked p (rows table.now) (in_leaves (items list.now) shared.now) (i + 1) heads.old nexts.old range
-        → Linked p (rows table.now) (in_leaves (items list.now) shared.now) i heads.new nexts.new result }
+    requires inside { i < length leaves.list.now / 70 }
+    requires linked { (p : Fields → Bool) × Linked p (rows table.numbers.now) (leaves_of leaves) (i + 1) heads.old nexts.old range }
+    ensures { (p : Fields → Bool) → dropped ≡ p (decode (drop (i * 70) leaves.entry.list.now)) → Linked p (rows table.entry.numbers.now) (leaves_of leaves.entry) (i + 1) heads.old nexts.old range
+        → Linked p (rows table.entry.numbers.now) (leaves_of leaves.entry) i heads.new nexts.new result }
 {
     if !dropped {
         return range;
     }
-    let item = item::item_at(list, i);
-    let Some((k, _)) = table::find_row(table, item.extent_start()) else {
+    let item = item::item_at(leaves.list, i);
+    let Some((k, _)) = table.find_row(item.extent_start()) else {
         return range;
     };
     nexts[i] = heads[k];
@@ -146,28 +139,37 @@ pub fn link_item(
 
 // The lines of all rows of a range, by the chains of their drops. No row outside of it has a drop.
 pub fn put_rows(
-    release: bool,
-    list: &[u8],
-    shared: &[u8],
-    table: &[u64],
+    leaves: Leaves,
+    table: Table,
     heads: &[u32],
     nexts: &[u32],
     range: Range<usize>,
-    out: &mut [u64],
-    n: usize,
-) -> usize
-    requires shared_len { length shared.now ≡ length (items list.now) }
-    requires linked { (p : Fields → Bool) × Linked p (rows table.now) (in_leaves (items list.now) shared.now) 0 heads.now nexts.now range
-        × (n + length (cond release (releases (rows table.now) (drops_by p (in_leaves (items list.now) shared.now))) (unrefs (rows table.now) (drops_by p (in_leaves (items list.now) shared.now)))) < 2 ^ 64) }
-    ensures { (p : Fields → Bool) → Linked p (rows table.now) (in_leaves (items list.now) shared.now) 0 heads.now nexts.now range
-        → Laid ref_numbers 2 n (cond release (releases (rows table.now) (drops_by p (in_leaves (items list.now) shared.now))) (unrefs (rows table.now) (drops_by p (in_leaves (items list.now) shared.now)))) out.old result out.new }
+    unrefs: &mut [u64],
+    releases: &mut [u64],
+    at: DropCounts,
+) -> DropCounts
+    requires { (p : Fields → Bool) × Linked p (rows table.numbers.now) (leaves_of leaves) 0 heads.now nexts.now range
+        × (at.unrefs + length (all_unrefs (rows table.numbers.now) (drops_by p (leaves_of leaves))) < 2 ^ 64)
+        × (at.releases + length (all_releases (rows table.numbers.now) (drops_by p (leaves_of leaves))) < 2 ^ 64) }
+    ensures unrefs { (p : Fields → Bool) → Linked p (rows table.entry.numbers.now) (leaves_of leaves.entry) 0 heads.now nexts.now range
+        → Laid ref_numbers 2 at.unrefs (all_unrefs (rows table.entry.numbers.now) (drops_by p (leaves_of leaves.entry))) unrefs.old result.unrefs unrefs.new }
+    ensures releases { (p : Fields → Bool) → Linked p (rows table.entry.numbers.now) (leaves_of leaves.entry) 0 heads.now nexts.now range
+        → Laid ref_numbers 2 at.releases (all_releases (rows table.entry.numbers.now) (drops_by p (leaves_of leaves.entry))) releases.old result.releases releases.new }
 {
-    let mut at = n;
+    let mut counts = at;
     // k picks the row and the head of its chain.
     for k in range.start..range.end {
-        let row = table::row_at(table, k);
+        let row = table::row_at(table.numbers, k);
         let head = heads[k] as usize;
-        at = put_chain(release, row.references, list, shared, nexts, head, out, at);
+        counts = put_chain(
+            row.references,
+            leaves,
+            nexts,
+            head,
+            unrefs,
+            releases,
+            counts,
+        );
     }
-    at
+    counts
 }

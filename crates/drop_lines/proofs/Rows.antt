@@ -1,6 +1,6 @@
 -- The lines of drops, row by row and item by item, and how many there are. Assumes nothing.
 use mathlib.Core.Path.{◌≡◌, refl, ap, ◌∙◌, sym}
-use mathlib.Core.Bool.{Bool, true, false, cond, not}
+use mathlib.Core.Bool.{Bool, true, false, cond}
 use mathlib.Core.List.{List, [], ◌∷◌, ◌++◌, map, flat_map}
 use Prim.Native.Nat.{ℕ, ◌+◌, ◌≤◌}
 use native.Mathlib.Omega.{arith}
@@ -21,7 +21,7 @@ use Rattle.ref_def.specs.Drops.{InLeaf, in_leaves, drops_of, lines, released, re
 use Rattle.ref_def.proofs.Drops.{drops-number, leaves-length}
 use Rattle.drop_lines.specs.declared.Cut.{Cut}
 use Rattle.drop_lines.specs.Dropped.{taken, dropped, drops_in}
-use Rattle.drop_lines.specs.Raw.{drop_of, line_of, row_lines}
+use Rattle.drop_lines.specs.Raw.{drop_of, line_of, row_releases, row_unrefs}
 use Rattle.drop_lines.proofs.Tallies.{of_extent, drops_of_lem}
 
 -- ---- the lines of one extent: the shared bytes do not count
@@ -52,29 +52,20 @@ module _ (c : Cut) (start : ℕ) where
     pub line-none : t ≡ false → line_of c start f ≡ []
     line-none h = rw (sym e ∙ h) refl
 
--- ---- the lines of one row
+-- ---- the lines of one row, and of all
 
--- released as is asked, or not
-row_lines_lem : (release : Bool) (ds : List InLeaf) (row : Row) (u t : Bool) → u ≡ released ds row → t ≡ cond release u (not u) → row_lines release ds row ≡ cond t (lines row.start ds) []
-row_lines_lem release ds row u t e h = rw (h, ← e) (go release u)
-  where
-    go : (r u : Bool) → cond r (cond u (lines row.start ds) []) (cond u [] (lines row.start ds)) ≡ cond (cond r u (not u)) (lines row.start ds) []
-    go true u = refl
-    go false true = refl
-    go false false = refl
+module _ (c : Cut) (fs : List Fields) (bs : List ℕ) (row : Row) (t : Bool) (e : t ≡ released (drops_in c fs bs) row) where
+  pub released_lines : length bs ≡ length fs → t ≡ true → row_releases (drops_in c fs bs) row ≡ flat_map (line_of c row.start) fs
+  released_lines l z = rw (sym e ∙ z) (lines-items c row.start fs bs l)
 
-module _ (c : Cut) (release : Bool) (fs : List Fields) (bs : List ℕ) (row : Row) (u t : Bool) (e : u ≡ released (drops_in c fs bs) row) (h : t ≡ cond release u (not u)) where
-  pub row_some : length bs ≡ length fs → t ≡ true → row_lines release (drops_in c fs bs) row ≡ flat_map (line_of c row.start) fs
-  row_some l z = row_lines_lem release (drops_in c fs bs) row u t e h ∙ rw z (lines-items c row.start fs bs l)
+  pub released_none : t ≡ true → row_unrefs (drops_in c fs bs) row ≡ []
+  released_none z = rw (sym e ∙ z) refl
 
-  pub row_none : t ≡ false → row_lines release (drops_in c fs bs) row ≡ []
-  row_none z = row_lines_lem release (drops_in c fs bs) row u t e h ∙ rw z refl
+  pub held_lines : length bs ≡ length fs → t ≡ false → row_unrefs (drops_in c fs bs) row ≡ flat_map (line_of c row.start) fs
+  held_lines l z = rw (sym e ∙ z) (lines-items c row.start fs bs l)
 
--- ---- all rows
-
-pub lines_rows : (release : Bool) (rs : List Row) (ds : List InLeaf) → cond release (releases rs ds) (unrefs rs ds) ≡ flat_map (row_lines release ds) rs
-lines_rows true rs ds = refl
-lines_rows false rs ds = refl
+  pub held_none : t ≡ false → row_releases (drops_in c fs bs) row ≡ []
+  held_none z = rw (sym e ∙ z) refl
 
 module _ (ds : List InLeaf) where
   -- the drops whose extent starts at or past a place
@@ -82,7 +73,7 @@ module _ (ds : List InLeaf) where
   from b d = leb b d.item.extent_start
 
   -- a drop gives a line of one kind or the other
-  row_most : (row : Row) → length (row_lines true ds row) + length (row_lines false ds row) ≡ count (λ (d : InLeaf). eqb d.item.extent_start row.start) ds
+  row_most : (row : Row) → length (row_releases ds row) + length (row_unrefs ds row) ≡ count (λ (d : InLeaf). eqb d.item.extent_start row.start) ds
   row_most row = go (released ds row) ∙ length-map (drops_of row.start ds) (λ (d : InLeaf). ref_of d.item) ∙ drops-number row.start ds
     where
       go : (u : Bool) → length (cond u (lines row.start ds) []) + length (cond u [] (lines row.start ds)) ≡ length (lines row.start ds)
@@ -95,8 +86,8 @@ module _ (ds : List InLeaf) where
   rows-most [] b k h = omega arith
   rows-most (r ∷ rs) b k h =
       let ih = rows-most rs (r.start + 1) (kept-tail r rs k) (every_map (row_before r) (λ (q : Row). leb (r.start + 1) q.start) later rs (both_left (every (row_before r) rs) (pairs row_before rs) (kept-pairs (r ∷ rs) k).1)) in
-      let x = length-append (row_lines true ds r) (releases rs ds) in
-      let y = length-append (row_lines false ds r) (unrefs rs ds) in
+      let x = length-append (row_releases ds r) (releases rs ds) in
+      let y = length-append (row_unrefs ds r) (unrefs rs ds) in
       let w = row_most r in
       let z = count-apart (λ (d : InLeaf). true) (λ (d : InLeaf). eqb d.item.extent_start r.start) (from (r.start + 1)) (from b) (λ d e. apart d) ds (every_true ds) in
       omega arith
@@ -131,8 +122,3 @@ lines-most c rs fs bs k l =
     let z = keep-length (dropped c) (in_leaves fs bs) in
     let w = count-length (dropped c) (in_leaves fs bs) in
     omega (arith, leaves-length fs bs l)
-
--- those of one kind
-pub kind-most : (c : Cut) (release : Bool) (rs : List Row) (fs : List Fields) (bs : List ℕ) → table_kept rs ≡ true → length bs ≡ length fs → length (flat_map (row_lines release (drops_in c fs bs)) rs) ≤ length fs
-kind-most c true rs fs bs k l = omega (arith, lines-most c rs fs bs k l)
-kind-most c false rs fs bs k l = omega (arith, lines-most c rs fs bs k l)

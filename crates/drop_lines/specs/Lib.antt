@@ -1,2 +1,3 @@
 pub mod Dropped
+pub mod Lent
 pub mod Raw

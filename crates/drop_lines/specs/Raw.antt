@@ -38,6 +38,9 @@ drop_of c start f = taken c f && eqb f.extent_start start
 abbrev pub line_of : Cut → ℕ → Fields → List Ref
 line_of c start f = only (drop_of c start f) (ref_of f)
 
--- the lines of one row: those of its drops, if it is released or not, as is asked
-abbrev pub row_lines : Bool → List InLeaf → Row → List Ref
-row_lines release ds row = cond release (cond (released ds row) (lines row.start ds) []) (cond (released ds row) [] (lines row.start ds))
+-- the lines of one row's drops: releases if its extent is released, else unrefs
+abbrev pub row_releases : List InLeaf → Row → List Ref
+row_releases ds row = cond (released ds row) (lines row.start ds) []
+
+abbrev pub row_unrefs : List InLeaf → Row → List Ref
+row_unrefs ds row = cond (released ds row) [] (lines row.start ds)

@@ -2,23 +2,28 @@
 // are released, and a line for each drop.
 #![tactic(auto)]
 
-ghost use Rattle.std.specs.Prelude.{◌≡◌, true, cond, not, ℕ, ◌+◌, ◌/◌, ◌≤◌, ◌<◌, ◌^◌, length};
+ghost use Rattle.std.specs.Prelude.{◌≡◌, ℕ, ◌+◌, ◌/◌, ◌≤◌, ◌<◌, ◌^◌, length};
 ghost use mathlib.Core.List.{List, flat_map};
 ghost use Rattle.records.specs.Lent.{old, new};
 ghost use Rattle.records.specs.Refusals.{why};
 ghost use Rattle.item.specs.Items.{fields, items};
-ghost use Rattle.table.specs.Rows.{rows, table_kept};
+ghost use Rattle.table.specs.Rows.{rows};
 ghost use Rattle.plan_def.specs.Outputs.{ref_numbers};
 ghost use Rattle.plan_lines.specs.Lines.{Laid};
-ghost use Rattle.ref_def.specs.Drops.{in_leaves, drop_refusal, earlier, drops_refusal, released, releases, unrefs};
+ghost use Rattle.ref_def.specs.Drops.{drop_refusal, earlier, drops_refusal, released, releases as all_releases, unrefs as all_unrefs};
+ghost use Rattle.ref_def.specs.Lent.{leaves_of};
 ghost use Rattle.drop_lines.specs.Dropped.{taken, drops_in};
-ghost use Rattle.drop_lines.specs.Raw.{due, item_due, drop_of, line_of, row_lines};
+ghost use Rattle.drop_lines.specs.Lent.{cut_drops};
+ghost use Rattle.drop_lines.specs.Raw.{due, item_due, drop_of, line_of, row_unrefs, row_releases};
+ghost use Rattle.drop_chains.specs.Counts.{Countable};
 ghost use Rattle.drop_chains.specs.Links.{Blank, Linked};
 
+pub use drop_chains::DropCounts;
 use item::Item;
 use records::refusal::{Refusal, check};
+use ref_def::Leaves;
 use std::ops::Range;
-use table::Row;
+use table::{Row, Table};
 
 // The range that is cut, and the starts of two extents that are written in place (0: none), whose items are compared
 // instead of dropped.
@@ -47,20 +52,18 @@ fn is_dropped(c: Cut, item: Item) -> bool
 }
 
 // Refusals 14 and 17 of one drop.
-fn drop_refusal(table: &[u64], item: Item) -> Result<(), Refusal>
-    requires { table_kept (rows table.now) ≡ true }
-    ensures { why result ≡ drop_refusal (rows table.now) (fields item) }
+fn drop_refusal(table: Table, item: Item) -> Result<(), Refusal>
+    ensures { why result ≡ drop_refusal (rows table.entry.numbers.now) (fields item) }
 {
-    let Some((_, row)) = table::find_row(table, item.extent_start()) else {
+    let Some((_, row)) = table.find_row(item.extent_start()) else {
         return Err(Refusal::NoRow);
     };
     check(table::window_sound(item, row), Refusal::Window)
 }
 
 // What is due for one item.
-fn item_due(c: Cut, table: &[u64], item: Item) -> Option<Refused>
-    requires { table_kept (rows table.now) ≡ true }
-    ensures { due result ≡ item_due c (rows table.now) (fields item) }
+fn item_due(c: Cut, table: Table, item: Item) -> Option<Refused>
+    ensures { due result ≡ item_due c (rows table.entry.numbers.now) (fields item) }
 {
     if !is_dropped(c, item) {
         return None;
@@ -82,9 +85,8 @@ fn earlier(a: Option<Refused>, b: Option<Refused>) -> Option<Refused>
 }
 
 // Refusals 14 and 17 of the drops, by extent start. The shared bytes do not count.
-pub fn drops_refusal(c: Cut, list: &[u8], table: &[u64]) -> Result<(), Refusal>
-    requires { table_kept (rows table.now) ≡ true }
-    ensures { (bs : List ℕ) → length bs ≡ length (items list.now) → why result ≡ drops_refusal (rows table.now) (drops_in c (items list.now) bs) }
+pub fn drops_refusal(c: Cut, list: &[u8], table: Table) -> Result<(), Refusal>
+    ensures { (bs : List ℕ) → length bs ≡ length (items list.now) → why result ≡ drops_refusal (rows table.entry.numbers.now) (drops_in c (items list.now) bs) }
 {
     let mut first: Option<Refused> = None;
     for item in item::items(list) {
@@ -104,13 +106,12 @@ fn is_drop_of(c: Cut, start: u64, item: Item) -> bool
 }
 
 // Whether an extent is released: all its references are drops, and none of their leaves is shared.
-pub fn is_released(c: Cut, list: &[u8], shared: &[u8], row: Row) -> bool
-    requires { length shared.now ≡ length (items list.now) }
-    ensures { result ≡ released (drops_in c (items list.now) shared.now) row }
+pub fn is_released(c: Cut, leaves: Leaves, row: Row) -> bool
+    ensures { result ≡ released (cut_drops c leaves.entry) row }
 {
     let start = row.start;
     let mut drops: u64 = 0;
-    for (item, byte) in item::items(list).zip(shared) {
+    for (item, byte) in item::items(leaves.list).zip(leaves.shared) {
         if is_drop_of(c, start, item) {
             if *byte != 0 {
                 return false;
@@ -144,68 +145,59 @@ fn put_lines(c: Cut, start: u64, list: &[u8], out: &mut [u64], n: usize) -> usiz
     at
 }
 
-// The lines of one row: of its drops, if they are releases or unrefs as is asked.
+// The lines of one row's drops: releases if its extent is released, else unrefs.
 fn put_row(
     c: Cut,
-    release: bool,
-    list: &[u8],
-    shared: &[u8],
+    leaves: Leaves,
     row: Row,
-    out: &mut [u64],
-    n: usize,
-) -> usize
-    requires shared_len { length shared.now ≡ length (items list.now) }
-    requires row_bound { n + length (row_lines release (drops_in c (items list.now) shared.now) row) < 2 ^ 64 }
-    ensures { Laid ref_numbers 2 n (row_lines release (drops_in c (items list.now) shared.now) row) out.old result out.new }
+    unrefs: &mut [u64],
+    releases: &mut [u64],
+    at: DropCounts,
+) -> DropCounts
+    requires { (at.unrefs + length (row_unrefs (cut_drops c leaves) row) < 2 ^ 64)
+        × (at.releases + length (row_releases (cut_drops c leaves) row) < 2 ^ 64) }
+    ensures unrefs { Laid ref_numbers 2 at.unrefs (row_unrefs (cut_drops c leaves.entry) row) unrefs.old result.unrefs unrefs.new }
+    ensures releases { Laid ref_numbers 2 at.releases (row_releases (cut_drops c leaves.entry) row) releases.old result.releases releases.new }
 {
-    if drop_chains::is_asked(release, is_released(c, list, shared, row)) {
-        return put_lines(c, row.start, list, out, n);
+    if is_released(c, leaves, row) {
+        let n = put_lines(c, row.start, leaves.list, releases, at.releases);
+        return DropCounts { releases: n, ..at };
     }
-    n
+    let n = put_lines(c, row.start, leaves.list, unrefs, at.unrefs);
+    DropCounts { unrefs: n, ..at }
 }
 
 // The lines of all rows, each by passes over the list: for lists and tables that are longer than any that is accepted.
 fn put_plain(
     c: Cut,
-    release: bool,
-    list: &[u8],
-    shared: &[u8],
-    table: &[u64],
-    out: &mut [u64],
-    n: usize,
-) -> usize
-    requires table_value { table_kept (rows table.now) ≡ true }
-    requires shared_len { length shared.now ≡ length (items list.now) }
-    requires list_bound { n + length (items list.now) < 2 ^ 64 }
-    ensures { Laid ref_numbers 2 n (cond release (releases (rows table.now) (drops_in c (items list.now) shared.now)) (unrefs (rows table.now) (drops_in c (items list.now) shared.now))) out.old result out.new }
+    leaves: Leaves,
+    table: Table,
+    unrefs: &mut [u64],
+    releases: &mut [u64],
+    at: DropCounts,
+) -> DropCounts
+    requires { Countable at (length (items leaves.list.now)) }
+    ensures unrefs { Laid ref_numbers 2 at.unrefs (all_unrefs (rows table.entry.numbers.now) (cut_drops c leaves.entry)) unrefs.old result.unrefs unrefs.new }
+    ensures releases { Laid ref_numbers 2 at.releases (all_releases (rows table.entry.numbers.now) (cut_drops c leaves.entry)) releases.old result.releases releases.new }
 {
-    let mut at = n;
-    for row in table::rows(table) {
-        at = put_row(c, release, list, shared, row, out, at);
+    let mut counts = at;
+    for row in table::rows(table.numbers) {
+        counts = put_row(c, leaves, row, unrefs, releases, counts);
     }
-    at
+    counts
 }
 
 // ---- drops chained by row
 
 // The drops chained by row, in list order, as they are put in from the last to the first; the rows that have one.
-fn link(
-    c: Cut,
-    list: &[u8],
-    shared: &[u8],
-    table: &[u64],
-    heads: &mut [u32],
-    nexts: &mut [u32],
-) -> Range<usize>
-    requires table_value { table_kept (rows table.now) ≡ true }
-    requires shared_len { length shared.now ≡ length (items list.now) }
-    requires blank { Blank (rows table.now) (in_leaves (items list.now) shared.now) heads.old nexts.old }
-    ensures { Linked (taken c) (rows table.now) (in_leaves (items list.now) shared.now) 0 heads.new nexts.new result }
+fn link(c: Cut, leaves: Leaves, table: Table, heads: &mut [u32], nexts: &mut [u32]) -> Range<usize>
+    requires { Blank (rows table.numbers.now) (leaves_of leaves) heads.old nexts.old }
+    ensures { Linked (taken c) (rows table.entry.numbers.now) (leaves_of leaves.entry) 0 heads.new nexts.new result }
 {
-    let mut span = table.len() / 5..0;
-    for i in (0..list.len() / item::RECORD).rev() {
-        let dropped = is_dropped(c, item::item_at(list, i));
-        span = drop_chains::link_item(dropped, list, shared, table, i, heads, nexts, span);
+    let mut span = table.numbers.len() / table::WIDTH..0;
+    for i in (0..leaves.list.len() / item::RECORD).rev() {
+        let dropped = is_dropped(c, item::item_at(leaves.list, i));
+        span = drop_chains::link_item(dropped, leaves, table, i, heads, nexts, span);
     }
     span
 }
@@ -213,23 +205,21 @@ fn link(
 // The lines of all rows: the drops are chained by row first, through arrays that are lent.
 fn put_linked(
     c: Cut,
-    release: bool,
-    list: &[u8],
-    shared: &[u8],
-    table: &[u64],
+    leaves: Leaves,
+    table: Table,
     heads: &mut [u32],
     nexts: &mut [u32],
-    out: &mut [u64],
-    n: usize,
-) -> usize
-    requires table_value { table_kept (rows table.now) ≡ true }
-    requires shared_len { length shared.now ≡ length (items list.now) }
-    requires list_bound { n + length (items list.now) < 2 ^ 64 }
-    requires blank { Blank (rows table.now) (in_leaves (items list.now) shared.now) heads.old nexts.old }
-    ensures { Laid ref_numbers 2 n (cond release (releases (rows table.now) (drops_in c (items list.now) shared.now)) (unrefs (rows table.now) (drops_in c (items list.now) shared.now))) out.old result out.new }
+    unrefs: &mut [u64],
+    releases: &mut [u64],
+    at: DropCounts,
+) -> DropCounts
+    requires countable { Countable at (length (items leaves.list.now)) }
+    requires blank { Blank (rows table.numbers.now) (leaves_of leaves) heads.old nexts.old }
+    ensures unrefs { Laid ref_numbers 2 at.unrefs (all_unrefs (rows table.entry.numbers.now) (cut_drops c leaves.entry)) unrefs.old result.unrefs unrefs.new }
+    ensures releases { Laid ref_numbers 2 at.releases (all_releases (rows table.entry.numbers.now) (cut_drops c leaves.entry)) releases.old result.releases releases.new }
 {
-    let span = link(c, list, shared, table, heads, nexts);
-    drop_chains::put_rows(release, list, shared, table, heads, nexts, span, out, n)
+    let span = link(c, leaves, table, heads, nexts);
+    drop_chains::put_rows(leaves, table, heads, nexts, span, unrefs, releases, at)
 }
 
 // The lines of all rows, with arrays of a size that suffices. It is not built into its caller, so that a call with few rows does
@@ -237,50 +227,46 @@ fn put_linked(
 #[inline(never)]
 fn put_sized<const N: usize>(
     c: Cut,
-    release: bool,
-    list: &[u8],
-    shared: &[u8],
-    table: &[u64],
-    out: &mut [u64],
-    n: usize,
-) -> usize
-    requires table_value { table_kept (rows table.now) ≡ true }
-    requires shared_len { length shared.now ≡ length (items list.now) }
-    requires list_bound { n + length (items list.now) < 2 ^ 64 }
-    requires size { (length table.now / 5 ≤ N) × (length list.now / 70 ≤ N) × (N ≤ 65536) }
-    ensures { Laid ref_numbers 2 n (cond release (releases (rows table.now) (drops_in c (items list.now) shared.now)) (unrefs (rows table.now) (drops_in c (items list.now) shared.now))) out.old result out.new }
+    leaves: Leaves,
+    table: Table,
+    unrefs: &mut [u64],
+    releases: &mut [u64],
+    at: DropCounts,
+) -> DropCounts
+    requires countable { Countable at (length (items leaves.list.now)) }
+    requires size { (length table.numbers.now / 5 ≤ N) × (length leaves.list.now / 70 ≤ N) × (N ≤ 65536) }
+    ensures unrefs { Laid ref_numbers 2 at.unrefs (all_unrefs (rows table.entry.numbers.now) (cut_drops c leaves.entry)) unrefs.old result.unrefs unrefs.new }
+    ensures releases { Laid ref_numbers 2 at.releases (all_releases (rows table.entry.numbers.now) (cut_drops c leaves.entry)) releases.old result.releases releases.new }
 {
     let mut heads = [0u32; N];
     let mut nexts = [0u32; N];
     put_linked(
-        c, release, list, shared, table, &mut heads, &mut nexts, out, n,
+        c, leaves, table, &mut heads, &mut nexts, unrefs, releases, at,
     )
 }
 
-// A line for each drop that is a release, or for each that is an unref: by extent start, then in list order.
+// A line for each drop: a release if its extent is released, else an unref; each by extent start, then in list order.
 pub fn put_drops(
     c: Cut,
-    release: bool,
-    list: &[u8],
-    shared: &[u8],
-    table: &[u64],
-    out: &mut [u64],
-    n: usize,
-) -> usize
-    requires table_value { table_kept (rows table.now) ≡ true }
-    requires shared_len { length shared.now ≡ length (items list.now) }
-    requires list_bound { n + length (items list.now) < 2 ^ 64 }
-    ensures { Laid ref_numbers 2 n (cond release (releases (rows table.now) (drops_in c (items list.now) shared.now)) (unrefs (rows table.now) (drops_in c (items list.now) shared.now))) out.old result out.new }
+    leaves: Leaves,
+    table: Table,
+    unrefs: &mut [u64],
+    releases: &mut [u64],
+    at: DropCounts,
+) -> DropCounts
+    requires { Countable at (length (items leaves.list.now)) }
+    ensures unrefs { Laid ref_numbers 2 at.unrefs (all_unrefs (rows table.entry.numbers.now) (cut_drops c leaves.entry)) unrefs.old result.unrefs unrefs.new }
+    ensures releases { Laid ref_numbers 2 at.releases (all_releases (rows table.entry.numbers.now) (cut_drops c leaves.entry)) releases.old result.releases releases.new }
 {
-    let most = (table.len() / 5).max(list.len() / item::RECORD);
+    let most = (table.numbers.len() / table::WIDTH).max(leaves.list.len() / item::RECORD);
     if most <= 64 {
-        return put_sized::<64>(c, release, list, shared, table, out, n);
+        return put_sized::<64>(c, leaves, table, unrefs, releases, at);
     }
     if most <= 1024 {
-        return put_sized::<1024>(c, release, list, shared, table, out, n);
+        return put_sized::<1024>(c, leaves, table, unrefs, releases, at);
     }
     if most <= 65536 {
-        return put_sized::<65536>(c, release, list, shared, table, out, n);
+        return put_sized::<65536>(c, leaves, table, unrefs, releases, at);
     }
-    put_plain(c, release, list, shared, table, out, n)
+    put_plain(c, leaves, table, unrefs, releases, at)
 }

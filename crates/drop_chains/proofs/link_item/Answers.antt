@@ -13,43 +13,43 @@ use Rattle.drop_chains.proofs.link_item.Goals as goal
 
 pub returns-then-not-dropped : goal.returns-then-not-dropped
 returns-then-not-dropped c = λ p e l.
-    let d : InLeaf = record { item = decode (drop (c.args.i * 70) c.args.list.now); shared = get_or c.args.shared.now c.args.i 0 } in
-    linked_kept p _ _ _ _ _ _ l (omega (arith, c.requires.shared_len.1, c.requires.shared_len.0, leaves-length (items c.args.list.now) c.args.shared.now c.requires.shared_len.0, items-length c.args.list.now)) d (λ x. leaves_here c.args.list.now c.args.shared.now c.args.i x _ c.requires.shared_len.0 c.requires.shared_len.1 refl) _ e c.if-not-dropped.true
+    let d : InLeaf = record { item = decode (drop (c.args.i * 70) c.args.leaves.list.now); shared = get_or c.args.leaves.shared.now c.args.i 0 } in
+    linked_kept p _ _ _ _ _ _ l (omega (arith, c.requires.inside, c.args.leaves.one_each, leaves-length (items c.args.leaves.list.now) c.args.leaves.shared.now c.args.leaves.one_each, items-length c.args.leaves.list.now)) d (λ x. leaves_here c.args.leaves.list.now c.args.leaves.shared.now c.args.i x _ c.args.leaves.one_each c.requires.inside refl) _ e c.if-not-dropped.true
 
 pub returns-in_default : goal.returns-in_default
 returns-in_default c = λ p e l.
-    let d : InLeaf = record { item = decode (drop (c.args.i * 70) c.args.list.now); shared = get_or c.args.shared.now c.args.i 0 } in
-    linked_skip p _ _ _ _ _ _ l (omega (arith, c.requires.shared_len.1, c.requires.shared_len.0, leaves-length (items c.args.list.now) c.args.shared.now c.requires.shared_len.0, items-length c.args.list.now)) d (λ x. leaves_here c.args.list.now c.args.shared.now c.args.i x _ c.requires.shared_len.0 c.requires.shared_len.1 refl) (of_none p _ c.requires.table_value d _ (c.extent_start.ensures ∙ ap (λ (f : Fields). f.extent_start) (item-decode _ _ c.item_at-item.ensures)) (sym c.in_default.is ∙ c.find_row.ensures))
+    let d : InLeaf = record { item = decode (drop (c.args.i * 70) c.args.leaves.list.now); shared = get_or c.args.leaves.shared.now c.args.i 0 } in
+    linked_skip p _ _ _ _ _ _ l (omega (arith, c.requires.inside, c.args.leaves.one_each, leaves-length (items c.args.leaves.list.now) c.args.leaves.shared.now c.args.leaves.one_each, items-length c.args.leaves.list.now)) d (λ x. leaves_here c.args.leaves.list.now c.args.leaves.shared.now c.args.i x _ c.args.leaves.one_each c.requires.inside refl) (of_none p _ c.args.table.kept d _ (c.extent_start.ensures ∙ ap (λ (f : Fields). f.extent_start) (item-decode _ _ c.item_at-item.ensures)) (sym c.in_default.is ∙ c.find_row.ensures))
 
 pub offset_bounds-heads-k : goal.offset_bounds-heads-k
-offset_bounds-heads-k c = let d : InLeaf = record { item = decode (drop (c.args.i * 70) c.args.list.now); shared = get_or c.args.shared.now c.args.i 0 } in
-    omega (arith, found_in c.requires.linked.0 (rows c.args.table.now) c.requires.table_value d _ (c.extent_start.ensures ∙ ap (λ (f : Fields). f.extent_start) (item-decode _ _ c.item_at-item.ensures)) _ _ (sym c.in-Some.is ∙ c.find_row.ensures), c.requires.linked.1.row_room, c.well_formed.1.1.1.1.1.0)
+offset_bounds-heads-k c = let d : InLeaf = record { item = decode (drop (c.args.i * 70) c.args.leaves.list.now); shared = get_or c.args.leaves.shared.now c.args.i 0 } in
+    omega (arith, found_in c.requires.linked.0 (rows c.args.table.numbers.now) c.args.table.kept d _ (c.extent_start.ensures ∙ ap (λ (f : Fields). f.extent_start) (item-decode _ _ c.item_at-item.ensures)) _ _ (sym c.in-Some.is ∙ c.find_row.ensures), c.requires.linked.1.row_room, c.well_formed.1.1.1.1.1.0)
 
 pub bounds-heads-k : goal.bounds-heads-k
-bounds-heads-k c = let d : InLeaf = record { item = decode (drop (c.args.i * 70) c.args.list.now); shared = get_or c.args.shared.now c.args.i 0 } in
-    omega (arith, found_in c.requires.linked.0 (rows c.args.table.now) c.requires.table_value d _ (c.extent_start.ensures ∙ ap (λ (f : Fields). f.extent_start) (item-decode _ _ c.item_at-item.ensures)) _ _ (sym c.in-Some.is ∙ c.find_row.ensures), c.requires.linked.1.row_room)
+bounds-heads-k c = let d : InLeaf = record { item = decode (drop (c.args.i * 70) c.args.leaves.list.now); shared = get_or c.args.leaves.shared.now c.args.i 0 } in
+    omega (arith, found_in c.requires.linked.0 (rows c.args.table.numbers.now) c.args.table.kept d _ (c.extent_start.ensures ∙ ap (λ (f : Fields). f.extent_start) (item-decode _ _ c.item_at-item.ensures)) _ _ (sym c.in-Some.is ∙ c.find_row.ensures), c.requires.linked.1.row_room)
 
 pub bounds-nexts-i : goal.bounds-nexts-i
-bounds-nexts-i c = let h : c.args.i < length (in_leaves (items c.args.list.now) c.args.shared.now) = (omega (arith, c.requires.shared_len.1, c.requires.shared_len.0, leaves-length (items c.args.list.now) c.args.shared.now c.requires.shared_len.0, items-length c.args.list.now)) in
+bounds-nexts-i c = let h : c.args.i < length (in_leaves (items c.args.leaves.list.now) c.args.leaves.shared.now) = (omega (arith, c.requires.inside, c.args.leaves.one_each, leaves-length (items c.args.leaves.list.now) c.args.leaves.shared.now c.args.leaves.one_each, items-length c.args.leaves.list.now)) in
     omega (arith, c.requires.linked.1.room, h)
 
 pub overflow_cast-heads : goal.overflow_cast-heads
-overflow_cast-heads c = let h : c.args.i < length (in_leaves (items c.args.list.now) c.args.shared.now) = (omega (arith, c.requires.shared_len.1, c.requires.shared_len.0, leaves-length (items c.args.list.now) c.args.shared.now c.requires.shared_len.0, items-length c.args.list.now)) in
+overflow_cast-heads c = let h : c.args.i < length (in_leaves (items c.args.leaves.list.now) c.args.leaves.shared.now) = (omega (arith, c.requires.inside, c.args.leaves.one_each, leaves-length (items c.args.leaves.list.now) c.args.leaves.shared.now c.args.leaves.one_each, items-length c.args.leaves.list.now)) in
     omega (arith, c.requires.linked.1.few, h)
 
 pub offset_bounds-heads-k-2 : goal.offset_bounds-heads-k-2
-offset_bounds-heads-k-2 c = let d : InLeaf = record { item = decode (drop (c.args.i * 70) c.args.list.now); shared = get_or c.args.shared.now c.args.i 0 } in
-    omega (arith, found_in c.requires.linked.0 (rows c.args.table.now) c.requires.table_value d _ (c.extent_start.ensures ∙ ap (λ (f : Fields). f.extent_start) (item-decode _ _ c.item_at-item.ensures)) _ _ (sym c.in-Some.is ∙ c.find_row.ensures), c.requires.linked.1.row_room, c.well_formed.1.1.1.1.1.0)
+offset_bounds-heads-k-2 c = let d : InLeaf = record { item = decode (drop (c.args.i * 70) c.args.leaves.list.now); shared = get_or c.args.leaves.shared.now c.args.i 0 } in
+    omega (arith, found_in c.requires.linked.0 (rows c.args.table.numbers.now) c.args.table.kept d _ (c.extent_start.ensures ∙ ap (λ (f : Fields). f.extent_start) (item-decode _ _ c.item_at-item.ensures)) _ _ (sym c.in-Some.is ∙ c.find_row.ensures), c.requires.linked.1.row_room, c.well_formed.1.1.1.1.1.0)
 
 pub bounds-heads-k-2 : goal.bounds-heads-k-2
-bounds-heads-k-2 c = let d : InLeaf = record { item = decode (drop (c.args.i * 70) c.args.list.now); shared = get_or c.args.shared.now c.args.i 0 } in
-    omega (arith, found_in c.requires.linked.0 (rows c.args.table.now) c.requires.table_value d _ (c.extent_start.ensures ∙ ap (λ (f : Fields). f.extent_start) (item-decode _ _ c.item_at-item.ensures)) _ _ (sym c.in-Some.is ∙ c.find_row.ensures), c.requires.linked.1.row_room)
+bounds-heads-k-2 c = let d : InLeaf = record { item = decode (drop (c.args.i * 70) c.args.leaves.list.now); shared = get_or c.args.leaves.shared.now c.args.i 0 } in
+    omega (arith, found_in c.requires.linked.0 (rows c.args.table.numbers.now) c.args.table.kept d _ (c.extent_start.ensures ∙ ap (λ (f : Fields). f.extent_start) (item-decode _ _ c.item_at-item.ensures)) _ _ (sym c.in-Some.is ∙ c.find_row.ensures), c.requires.linked.1.row_room)
 
 pub widened-requires : goal.widened-requires
-widened-requires c = let d : InLeaf = record { item = decode (drop (c.args.i * 70) c.args.list.now); shared = get_or c.args.shared.now c.args.i 0 } in
-    omega (arith, found_in c.requires.linked.0 (rows c.args.table.now) c.requires.table_value d _ (c.extent_start.ensures ∙ ap (λ (f : Fields). f.extent_start) (item-decode _ _ c.item_at-item.ensures)) _ _ (sym c.in-Some.is ∙ c.find_row.ensures), c.requires.linked.1.row_room, c.well_formed.1.1.1.1.1.0)
+widened-requires c = let d : InLeaf = record { item = decode (drop (c.args.i * 70) c.args.leaves.list.now); shared = get_or c.args.leaves.shared.now c.args.i 0 } in
+    omega (arith, found_in c.requires.linked.0 (rows c.args.table.numbers.now) c.args.table.kept d _ (c.extent_start.ensures ∙ ap (λ (f : Fields). f.extent_start) (item-decode _ _ c.item_at-item.ensures)) _ _ (sym c.in-Some.is ∙ c.find_row.ensures), c.requires.linked.1.row_room, c.well_formed.1.1.1.1.1.0)
 
 pub returns : goal.returns
 returns c = λ p e l.
-    let d : InLeaf = record { item = decode (drop (c.args.i * 70) c.args.list.now); shared = get_or c.args.shared.now c.args.i 0 } in
-    linked_put p _ _ _ _ _ _ l (omega (arith, c.requires.shared_len.1, c.requires.shared_len.0, leaves-length (items c.args.list.now) c.args.shared.now c.requires.shared_len.0, items-length c.args.list.now)) d (λ x. leaves_here c.args.list.now c.args.shared.now c.args.i x _ c.requires.shared_len.0 c.requires.shared_len.1 refl) c.requires.table_value _ (c.extent_start.ensures ∙ ap (λ (f : Fields). f.extent_start) (item-decode _ _ c.item_at-item.ensures)) _ _ (sym c.in-Some.is ∙ c.find_row.ensures) _ e c.if-not-dropped.false _ c.widened.ensures
+    let d : InLeaf = record { item = decode (drop (c.args.i * 70) c.args.leaves.list.now); shared = get_or c.args.leaves.shared.now c.args.i 0 } in
+    linked_put p _ _ _ _ _ _ l (omega (arith, c.requires.inside, c.args.leaves.one_each, leaves-length (items c.args.leaves.list.now) c.args.leaves.shared.now c.args.leaves.one_each, items-length c.args.leaves.list.now)) d (λ x. leaves_here c.args.leaves.list.now c.args.leaves.shared.now c.args.i x _ c.args.leaves.one_each c.requires.inside refl) c.args.table.kept _ (c.extent_start.ensures ∙ ap (λ (f : Fields). f.extent_start) (item-decode _ _ c.item_at-item.ensures)) _ _ (sym c.in-Some.is ∙ c.find_row.ensures) _ e c.if-not-dropped.false _ c.widened.ensures

@@ -1,7 +1,7 @@
 use native.Mathlib.Omega.{arith}
 use Rattle.item.specs.Items.{items}
 use Rattle.item.proofs.Laws.{items-length}
-use Rattle.ref_def.specs.Drops.{in_leaves}
+use Rattle.ref_def.specs.Lent.{leaves_of}
 use Rattle.ref_def.proofs.Drops.{leaves-length}
 use Rattle.ref_def.proofs.Zipped.{leaves_more, leaves_end}
 use Rattle.drop_chains.proofs.Walks.{tally_first}
@@ -14,14 +14,14 @@ loop-item-init c = tally_first _ _ _ (cc)
 pub overflow_add-drops : goal.overflow_add-drops
 overflow_add-drops c =
     let a = c.args in
-    let all = in_leaves (items a.list.now) a.shared.now in
+    let all = leaves_of a.leaves in
     let m = tally_more (of_extent a.c a.row.start) all _ _ _ (leaves_more c.loop-item.item-iterator c.next.new.self _ _ _ c.in-Some.is c.next.ensures.steps) _ c.loop-item.invariant _ c.is_drop_of.ensures c.if-is_drop_of.true c.if-byte-ne0.false in
-    omega (arith, tally_room (of_extent a.c a.row.start) all _ _ m, leaves-length (items a.list.now) a.shared.now c.requires, items-length a.list.now)
+    omega (arith, tally_room (of_extent a.c a.row.start) all _ _ m, leaves-length (items a.leaves.list.now) a.leaves.shared.now a.leaves.one_each, items-length a.leaves.list.now)
 
 pub returns-then-byte-ne0 : goal.returns-then-byte-ne0
 returns-then-byte-ne0 c =
     let a = c.args in
-    released-held a.c a.row (items a.list.now) a.shared.now
+    released-held a.c a.row (items a.leaves.list.now) a.leaves.shared.now
     (tally_held (of_extent a.c a.row.start) _ _ _ _ (leaves_more c.loop-item.item-iterator c.next.new.self _ _ _ c.in-Some.is c.next.ensures.steps) _ c.loop-item.invariant _ c.is_drop_of.ensures c.if-is_drop_of.true c.if-byte-ne0.true)
 
 pub loop-item-preserved-then-is_drop_of : goal.loop-item-preserved-then-is_drop_of
