@@ -10,7 +10,7 @@ use borrow.Author.Tests.{ltb-true, leb-true, le-leb, lt-ltb}
 use Rattle.std.specs.Prelude.{Option, Some, None}
 use Rattle.records.specs.Stages.{unless, first, every, pairs}
 use Rattle.records.specs.Raw.{sieve}
-use Rattle.records.proofs.Tests.{both, both_left, both_right, either, either_left, same, implied, imply, first-unless, unless-zero, every_map, every_both}
+use Rattle.records.proofs.Tests.{both, both_left, both_right, either, either_left, same, implied, imply, first-unless, every_map, every_both}
 use Rattle.item.specs.Items.{Fields, ranged, end}
 use Rattle.lists.specs.declared.Last.{Last}
 use Rattle.lists.specs.Lists.{range_sound, item_sound, rises, apart, list_kept}

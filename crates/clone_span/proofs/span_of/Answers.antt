@@ -1,5 +1,4 @@
-use Rattle.std.proofs.Common.{◌≡◌, true, ℕ, ◌+◌, ◌<◌, ◌^◌, arith}
-use Rattle.request.specs.Lent.{sector_sound}
+use Rattle.std.proofs.Common.{◌+◌, arith}
 use Rattle.change_def.proofs.Rounding.{sector-range, up_above}
 use Rattle.clone_span.proofs.span_of.Goals as goal
 
