@@ -1,13 +1,13 @@
 // A cut's splits and the byte count, over lent slices.
 #![tactic(auto, unfolding(records::specs::Stages::first, records::specs::Stages::stage, records::specs::Select::any))]
 
-ghost use Rattle.std.specs.Prelude.{◌≡◌, true, [], ◌∷◌, map, ◌+◌, ◌<◌, ◌^◌, length};
+ghost use Rattle.std.specs.Prelude.{◌≡◌, [], ◌∷◌, map, ◌+◌, ◌<◌, ◌^◌, length};
 ghost use Rattle.records.specs.Lent.{old, new};
 ghost use Rattle.records.specs.Select.{keep};
 ghost use Rattle.records.specs.Refusals.{why};
 ghost use Rattle.records.specs.Stages.{stage};
 ghost use Rattle.item.specs.Items.{fields, items};
-ghost use Rattle.table.specs.Rows.{rows, table_kept, one_more_reference};
+ghost use Rattle.table.specs.Rows.{rows, one_more_reference};
 ghost use Rattle.cut_def.specs.Cuts.{split};
 ghost use Rattle.cut_def.specs.Pieces.{counted_bytes};
 ghost use Rattle.cut_def.specs.Refs.{Ref, ref_of};
@@ -18,24 +18,23 @@ ghost use Rattle.cut_splits.specs.Splits.{split_refusal, elsewhere, shared, spli
 use drop_lines::Cut;
 use item::Item;
 use records::refusal::Refusal;
+use table::Table;
 
 // ---- splits: items that a cut leaves on both sides
 
 // The refusal of one more reference to an item's extent, if the cut of [lo, hi) splits it.
-fn split_refusal(table: &[u64], lo: u64, hi: u64, item: Item) -> Result<(), Refusal>
-    requires { table_kept (rows table.now) ≡ true }
-    ensures { why result ≡ split_refusal lo hi (rows table.now) (fields item) }
+fn split_refusal(table: Table, lo: u64, hi: u64, item: Item) -> Result<(), Refusal>
+    ensures { why result ≡ split_refusal lo hi (rows table.entry.numbers.now) (fields item) }
 {
     if cut_def::is_split(lo, hi, item) {
-        table::one_more_reference(table, item.extent_start())?;
+        table.one_more_reference(item.extent_start())?;
     }
     Ok(())
 }
 
 // The first refusal of a split's share, in the list's order.
-pub fn splits_refusal(list: &[u8], table: &[u64], lo: u64, hi: u64) -> Result<(), Refusal>
-    requires { table_kept (rows table.now) ≡ true }
-    ensures { why result ≡ stage (λ (q : Ref). one_more_reference q.start (rows table.now)) (map ref_of (keep (split lo hi) (items list.now))) }
+pub fn splits_refusal(list: &[u8], table: Table, lo: u64, hi: u64) -> Result<(), Refusal>
+    ensures { why result ≡ stage (λ (q : Ref). one_more_reference q.start (rows table.entry.numbers.now)) (map ref_of (keep (split lo hi) (items list.now))) }
 {
     for item in item::items(list) {
         split_refusal(table, lo, hi, item)?;

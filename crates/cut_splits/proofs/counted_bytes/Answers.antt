@@ -1,6 +1,4 @@
 use Rattle.item.proofs.Reading.{next_left, none_left}
-use Rattle.item.specs.Reading.{left}
-use Rattle.item.specs.Items.{fields}
 use Rattle.cut_splits.proofs.Bytes.{bytes_next, bytes_none}
 use native.Mathlib.Omega.{arith}
 use Rattle.cut_splits.proofs.counted_bytes.Goals as goal

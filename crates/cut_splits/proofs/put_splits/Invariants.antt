@@ -1,4 +1,4 @@
-use Rattle.std.proofs.Common.{◌≡◌, ◌+◌, ◌≤◌, [], ◌∷◌, length, map}
+use Rattle.std.proofs.Common.{◌+◌, ◌≤◌, [], ◌∷◌, length, map}
 use mathlib.Core.List.{flat_map}
 use Rattle.records.specs.Select.{keep}
 use Rattle.item.specs.Items.{items}

@@ -10,4 +10,4 @@ use Rattle.cut_splits.specs.Splits.{split_refusal}
 use Rattle.cut_splits.proofs.splits_refusal.Given as goal
 
 abbrev pub invariant-loop-item : goal.invariant-loop-item
-invariant-loop-item l = stage (split_refusal l.lo l.hi (rows l.table)) (left l.item-iterator) ≡ stage (λ (q : Ref). one_more_reference q.start (rows l.table)) (map ref_of (keep (split l.lo l.hi) (items l.list)))
+invariant-loop-item l = stage (split_refusal l.lo l.hi (rows l.table.numbers.now)) (left l.item-iterator) ≡ stage (λ (q : Ref). one_more_reference q.start (rows l.table.numbers.now)) (map ref_of (keep (split l.lo l.hi) (items l.list)))

@@ -9,4 +9,4 @@ use Rattle.cut_touched.proofs.splits_refusal.Goals as goal
 pub returns : goal.returns
 returns c = let a = c.args in
     c.splits_refusal.ensures
-    ∙ ap (λ (fs : List Fields). stage (λ (q : Ref). one_more_reference q.start (rows a.table.now)) (map ref_of fs)) (touched_splits a.lo a.hi _ _ c.touched_part.ensures)
+    ∙ ap (λ (fs : List Fields). stage (λ (q : Ref). one_more_reference q.start (rows a.table.numbers.now)) (map ref_of fs)) (touched_splits a.lo a.hi _ _ c.touched_part.ensures)
