@@ -3,7 +3,7 @@ use mathlib.Core.Path.{◌≡◌, refl, ◌∙◌, sym}
 use mathlib.Core.Bool.{Bool, true, false}
 use mathlib.Core.List.{List, [], ◌∷◌}
 use Prim.Native.Nat.{ℕ, ◌+◌, ◌*◌, ◌/◌, ◌<◌, ◌≤◌}
-use Rattle.std.specs.Prelude.{Option, Some, None}
+use Rattle.std.specs.Prelude.{Option, Some}
 use Rattle.std.proofs.Common.{inl, inr}
 use native.Mathlib.Omega.{arith}
 use lib.ListN.{length, drop}
@@ -11,11 +11,11 @@ use Rattle.records.specs.Stages.{pairs}
 use Rattle.item.specs.declared.Item.{Item}
 use Rattle.item.specs.Items.{Fields, decode, items, fields}
 use Rattle.lists.specs.Lists.{rises}
-use Rattle.cut_def.specs.Pieces.{built, items_of, insert_all}
-use Rattle.cut_def.specs.Edits.{Edit, edits}
+use Rattle.cut_def.specs.Pieces.{built, insert_all}
+use Rattle.cut_def.specs.Edits.{Edit}
 use Rattle.plan_def.specs.Outputs.{edit_bytes}
 use Rattle.plan_lines.specs.Lines.{Laid}
-use Rattle.plan_lines.proofs.Laws.{Going, going_first, going-turn}
+use Rattle.plan_lines.proofs.Laws.{Going, going-turn}
 use Rattle.edit_merge.specs.declared.Next.{Next}
 use Rattle.edit_merge.specs.declared.MergeCursor.{MergeCursor}
 use Rattle.edit_merge.specs.Merge.{from, together, comes_first, GoesOn, Merging, FromSegment}
@@ -64,10 +64,6 @@ module _ (c : Copying) (s t : List ℕ) (j k : ℕ) (r : pairs rises (clones c (
 
 -- ---- a step
 
--- an old item is left where no new one is
-pub old-left : (c : Copying) (s t o : List ℕ) (at : MergeCursor) (next : Option Next) → Ready c s t o at → IsNext c s t at.j at.k next → next ≡ None → at.i < length o / 70
-old-left c s t o at next r x u = let z = x.none u in omega (arith, r.some, z.0, z.1)
-
 pub stepped :
     (c : Copying) (s t o : List ℕ) (at : MergeCursor) (next : Option Next) (out : List ℕ) (to : MergeCursor) (out' : List ℕ)
     → Ready c s t o at → IsNext c s t at.j at.k next → Merging c.number o at next out to out' → Stepped c s t o at out to out'
@@ -88,19 +84,6 @@ stepped c s t o at next out to out' r x g =
 -- ---- the loop
 
 module _ (c : Copying) (s t o : List ℕ) where
-  -- where it starts
-  abbrev start : ℕ → MergeCursor
-  start k = record { i = 0; j = 0; k = k; n = 0 }
-
-  news-first : (k : ℕ) → Sought c s 0 k → news c s t 0 k ≡ together (clones c (items s)) (items t)
-  news-first k q = rw q.same refl
-
-  pub good-first : (k : ℕ) → Sought c s 0 k → pairs rises (items_of (together (clones c (items s)) (items t))) ≡ true → Good c s t o (start k)
-  good-first k q r = record { news = rw (news-first k q) r; i = omega arith; j = omega arith; settled = q.settled }
-
-  pub going_start : (k : ℕ) (out : List ℕ) → Sought c s 0 k → Going (edit_bytes c.number) 71 0 (edits (items o) (together (clones c (items s)) (items t))) out 0 (edits_from c s t o (start k)) out
-  going_start k out q = rw (news-first k q) (going_first (edit_bytes c.number) 71 0 _ out)
-
   module _ (all : List Edit) (out₀ : List ℕ) where
     pub steps-turn :
         (at to : MergeCursor) (out out' : List ℕ)

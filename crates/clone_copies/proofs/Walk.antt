@@ -1,41 +1,42 @@
 -- The copies of a source list, item by item and one behind the other. Assumes nothing.
 use mathlib.Core.Path.{◌≡◌, refl, ap, ◌∙◌, sym}
 use mathlib.Core.Bool.{Bool, true, false, cond, ◌&&◌, not, false≢true}
-use mathlib.Core.List.{List, [], ◌∷◌, ◌++◌, map, flat_map, map-append}
+use mathlib.Core.List.{List, [], ◌∷◌, ◌++◌, map, map-append}
 use Prim.Native.Nat.{ℕ, ◌+◌, ◌*◌, ◌/◌, ◌<◌, ◌≤◌}
 use native.Mathlib.Omega.{arith}
 use native.Mathlib.Decide.{dec_lt}
 use lib.Dec.{eqb}
 use lib.ListN.{length, take, drop, get_or, take-append-drop, length-drop, drop_of_length-le}
-use Rattle.std.specs.Prelude.{Some, None, position, nat_lt}
+use Rattle.std.specs.Prelude.{Option, Some, None, position, nat_lt}
+use Rattle.std.specs.Bool.{then_some}
+use Rattle.item.specs.declared.Item.{Item}
 use Rattle.std.specs.List.{position_or_len}
 use Rattle.std.proofs.lemmas.List.{drop-drop, get_or-drop}
 use Rattle.std.proofs.lemmas.List.Quantifiers.{position-Some}
 use borrow.Author.Tests.{not-true, ltb-false}
 use Rattle.records.specs.Stages.{every, pairs}
-use Rattle.records.specs.Select.{only, keep}
+use Rattle.records.specs.Select.{keep}
 use Rattle.records.proofs.Tests.{both_left, both_right, implied, every-at}
-use Rattle.item.specs.Items.{Fields, decode, items, hole, reference}
+use Rattle.item.specs.Items.{Fields, fields, decode, items, hole, reference}
 use Rattle.item.proofs.Laws.{items-length, items_at}
 use Rattle.lists.specs.Lists.{range_sound, rises}
 use Rattle.records.proofs.Lists.{pairs_parts}
 use Rattle.records.proofs.Picks.{keep_append}
 use Rattle.cut_def.specs.Pieces.{counted_bytes}
-use Rattle.cut_def.specs.Refs.{Ref, ref_of}
+use Rattle.cut_def.specs.Refs.{ref_of}
 use Rattle.edit_merge.specs.Merge.{from, comes_first}
 use Rattle.edit_merge.proofs.News.{from_cons, from_nil, first_read}
 use Rattle.clone_items.specs.declared.Copying.{Copying}
 use Rattle.clone_items.specs.Copies.{overlaps, clone_item, copied, clones}
-use Rattle.clone_items.specs.Raw.{InFiles, Copyable}
-use Rattle.clone_copies.specs.Walk.{leads, copy_share, copy_bytes, copy_sound, Copyables, Settled, Sought}
+use Rattle.clone_items.specs.Raw.{Copyable}
+use Rattle.clone_copies.specs.Walk.{leads, copy_sound, Settled, Sought, LeadingCopy}
 
 -- ---- one item
 
 -- an item that is copied can be
-pub copy_able : (c : Copying) (f : Fields) → InFiles c → copy_sound c f ≡ true → copied c f ≡ true → Copyable c f
-copy_able c f i s h =
+pub copy_able : (c : Copying) (f : Fields) → copy_sound c f ≡ true → copied c f ≡ true → Copyable c f
+copy_able c f s h =
     record {
-      inside = i;
       sound = implied (copied c f) (range_sound f) s h;
       over = both_left (overlaps c f) (not (hole f)) (both_right (not (eqb f.kind 0)) (overlaps c f && not (hole f)) h);
     }
@@ -49,19 +50,16 @@ unfolding every
 sound_first c l f fs e h = let x = rw e at h in (both_left (copy_sound c f) (every (copy_sound c) fs) x, both_right (copy_sound c f) (every (copy_sound c) fs) x)
 
 -- an item that the walk has come to
-pub able_read : (c : Copying) (s : List ℕ) (k : ℕ) (f : Fields) (fs : List Fields) → Copyables c (items s) → Settled c s k → from s k ≡ f ∷ fs → Copyable c f
+pub able_read : (c : Copying) (s : List ℕ) (k : ℕ) (f : Fields) (fs : List Fields) → every (copy_sound c) (items s) ≡ true → Settled c s k → from s k ≡ f ∷ fs → Copyable c f
 able_read c s k f fs h w e =
     let r = first_read s k f fs e in
     let l : k < length (items s) = omega (arith, r.0, items-length s) in
     let at : f ≡ get_or (items s) k f = r.1 ∙ sym (items_at s k f r.0) in
-    copy_able c f h.inside (ap (copy_sound c) at ∙ every-at (copy_sound c) (items s) h.sound k f l) (ap (copied c) r.1 ∙ w.there r.0)
+    copy_able c f (ap (copy_sound c) at ∙ every-at (copy_sound c) (items s) h k f l) (ap (copied c) r.1 ∙ w.there r.0)
 
--- its copy's numbers
-pub copy_ref : (c : Copying) (f g : Fields) (start offset : ℕ) → g ≡ clone_item c f → start ≡ g.extent_start → offset ≡ reference g → record { start = start; offset = offset } ≡ ref_of (clone_item c f)
-copy_ref c f g start offset e p q = rw (p, q, e) refl
-
-pub copy_length : (c : Copying) (f g : Fields) (l : ℕ) → g ≡ clone_item c f → l ≡ g.length → l ≡ (clone_item c f).length
-copy_length c f g l e p = rw (p, e) refl
+-- its copy's reference, by its numbers
+pub copy_ref : (c : Copying) (f g : Fields) (start offset : ℕ) → start ≡ g.extent_start → offset ≡ reference g → g ≡ clone_item c f → record { start = start; offset = offset } ≡ ref_of (clone_item c f)
+copy_ref c f g start offset p q e = rw (p, q, e) refl
 
 -- ---- the copies of a list, by its first item
 
@@ -74,27 +72,26 @@ module _ (c : Copying) (f : Fields) (fs : List Fields) where
   unfolding keep
   clones-no h = rw h refl
 
--- their shares, and their bytes
-pub shares_flat : (c : Copying) (fs : List Fields) → map ref_of (clones c fs) ≡ flat_map (copy_share c) fs
-unfolding keep flat_map
-shares_flat c [] = refl
-shares_flat c (f ∷ fs) = go (copied c f) (shares_flat c fs)
-  where
-    go : (b : Bool) → map ref_of (clones c fs) ≡ flat_map (copy_share c) fs → map ref_of (map (clone_item c) (cond b (f ∷ keep (copied c) fs) (keep (copied c) fs))) ≡ only b (ref_of (clone_item c f)) ++ flat_map (copy_share c) fs
-    go true ih = ap (λ (l : List Ref). ref_of (clone_item c f) ∷ l) ih
-    go false ih = ih
+-- of what a loop has left: the next item is copied, or passed
+module _ (c : Copying) (l : List Fields) (f : Fields) (fs : List Fields) (e : l ≡ f ∷ fs) where
+  pub left-copied : copied c f ≡ true → clones c l ≡ clone_item c f ∷ clones c fs
+  left-copied h = ap (clones c) e ∙ clones-yes c f fs h
 
-pub bytes_cons : (c : Copying) (f : Fields) (fs : List Fields) → counted_bytes (clones c (f ∷ fs)) ≡ copy_bytes c f + counted_bytes (clones c fs)
-unfolding counted_bytes keep
-bytes_cons c f fs = go (copied c f) refl
-  where
-    go : (b : Bool) → copied c f ≡ b → counted_bytes (map (clone_item c) (cond b (f ∷ keep (copied c) fs) (keep (copied c) fs))) ≡ cond b (clone_item c f).length 0 + counted_bytes (clones c fs)
-    go true e = rw (copied_solid c f e) refl
-    go false e = omega arith
+  pub left-passed : copied c f ≡ false → clones c l ≡ clones c fs
+  left-passed h = ap (clones c) e ∙ clones-no c f fs h
 
-pub bytes_none : (c : Copying) (fs : List Fields) → fs ≡ [] → counted_bytes (clones c fs) ≡ 0
-unfolding counted_bytes keep
-bytes_none c fs e = rw e refl
+  -- a copy is no hole
+  pub bytes-copied : copied c f ≡ true → (g : Fields) → g ≡ clone_item c f → counted_bytes (clones c l) ≡ g.length + counted_bytes (clones c fs)
+  unfolding counted_bytes
+  bytes-copied h g p = ap counted_bytes (left-copied h) ∙ rw (copied_solid c f h, p) refl
+
+pub left-none : (c : Copying) (l : List Fields) → l ≡ [] → clones c l ≡ []
+unfolding keep
+left-none c l e = rw e refl
+
+pub bytes-none : (c : Copying) (l : List Fields) → l ≡ [] → counted_bytes (clones c l) ≡ 0
+unfolding counted_bytes
+bytes-none c l e = ap counted_bytes (left-none c l e)
 
 -- ---- the walk
 
@@ -167,6 +164,20 @@ module _ (c : Copying) (s t : List ℕ) (j k : ℕ) (w : Settled c s k) where
       go : (gs : List Fields) → b ≡ leads (clone_item c (decode (drop (k * 70) s))).key gs → b ≡ comes_first (clone_item c (decode (drop (k * 70) s)) ∷ clones c (from s (k + 1))) gs
       go [] q = q
       go (x ∷ xs) q = q
+
+  -- it is, if it leads
+  pub leading-if :
+      (x copy : Item) (fs : List Fields) (b : Bool) (r : Option Item) → from s k ≡ fields x ∷ fs → fields copy ≡ clone_item c (fields x) → b ≡ leads copy.key (from t j)
+      → r ≡ then_some b copy → LeadingCopy c s t j k r
+  leading-if x copy fs b r e p q z =
+      rw z (go b (copy_leads (fields copy) b n.0 (p ∙ ap (clone_item c) n.1) q))
+    where
+      n : (k < length s / 70) × (fields x ≡ decode (drop (k * 70) s)) × (fs ≡ from s (k + 1))
+      n = first_read s k (fields x) fs e
+
+      go : (b : Bool) → b ≡ comes_first (clones c (from s k)) (from t j) → LeadingCopy c s t j k (then_some b copy)
+      go true h = (n.0, p ∙ ap (clone_item c) n.1, sym h)
+      go false h = sym h
 
   -- where none comes first and the segment has ended, none is left
   pub copy_gone : (b : Bool) → b ≡ comes_first (clones c (from s k)) (from t j) → b ≡ false → length t / 70 ≤ j → length s / 70 ≤ k

@@ -1,13 +1,11 @@
 -- For the code only: the copies of a source list, one behind the other, with nothing stored: from record k on, which is copied or is the
 -- end; and the steps of a merge with them.
-use Rattle.std.specs.Prelude.{Option, Some, None, ◌≡◌, Bool, true, false, cond, ◌||◌, not, List, [], ◌∷◌, ℕ, ◌+◌, ◌*◌, ◌/◌, ◌≤◌, ◌<◌, ◌^◌, ltb, length, drop}
-use Rattle.records.specs.Stages.{every, pairs}
-use Rattle.records.specs.Select.{only}
+use Rattle.std.specs.Prelude.{Option, Some, None, ◌≡◌, Bool, true, false, ◌||◌, not, List, [], ◌∷◌, ℕ, ◌+◌, ◌*◌, ◌/◌, ◌≤◌, ◌<◌, ◌^◌, ltb, length, drop}
+use Rattle.records.specs.Stages.{pairs}
 use Rattle.item.specs.declared.Item.{Item}
-use Rattle.item.specs.Items.{Fields, fields, decode, items}
+use Rattle.item.specs.Items.{Fields, fields, decode}
 use Rattle.lists.specs.Lists.{range_sound, rises}
 use Rattle.cut_def.specs.Pieces.{Piece, items_of}
-use Rattle.cut_def.specs.Refs.{Ref, ref_of}
 use Rattle.cut_def.specs.Edits.{Edit, edits}
 use Rattle.plan_def.specs.Outputs.{edit_bytes}
 use Rattle.plan_lines.specs.Lines.{Laid}
@@ -16,31 +14,15 @@ use Rattle.edit_merge.specs.declared.MergeCursor.{MergeCursor}
 use Rattle.edit_merge.specs.Merge.{from, together, comes_first, Heads}
 use Rattle.clone_items.specs.declared.Copying.{Copying}
 use Rattle.clone_items.specs.Copies.{clone_item, copied, clones}
-use Rattle.clone_items.specs.Raw.{InFiles}
 
 -- the first of some items, if there is one, starts behind a key
 abbrev pub leads : ℕ → List Fields → Bool
 leads key [] = true
 leads key (g ∷ gs) = ltb key g.key
 
--- ---- what one source item adds
-
--- the share of its copy, if it is copied
-abbrev pub copy_share : Copying → Fields → List Ref
-copy_share c f = only (copied c f) (ref_of (clone_item c f))
-
--- the bytes of its copy
-abbrev pub copy_bytes : Copying → Fields → ℕ
-copy_bytes c f = cond (copied c f) (clone_item c f).length 0
-
 -- an item that is copied has a sound range
 abbrev pub copy_sound : Copying → Fields → Bool
 copy_sound c f = not (copied c f) || range_sound f
-
--- what is asked of a source whose items are copied
-pub record Copyables (c : Copying) (fs : List Fields) : Type 0 where
-  pub inside : InFiles c
-  pub sound : every (copy_sound c) fs ≡ true
 
 module _ (c : Copying) (source : List ℕ) where
   -- record k is copied, or it is the end
@@ -60,10 +42,9 @@ module _ (c : Copying) (source : List ℕ) where
     news j k = together (clones c (from source k)) (from segment j)
 
     -- the copy of record k, where it comes first of them
-    pub record LeadingCopy (j k : ℕ) (copy : Option Item) : Type 0 where
-      pub some : (item : Item) → copy ≡ Some item → (k < length source / 70) × (fields item ≡ clone_item c (decode (drop (k * 70) source)))
-          × (comes_first (clones c (from source k)) (from segment j) ≡ true)
-      pub none : copy ≡ None → comes_first (clones c (from source k)) (from segment j) ≡ false
+    abbrev pub LeadingCopy : (j k : ℕ) → Option Item → Type 0
+    LeadingCopy j k (Some copy) = (k < length source / 70) × (fields copy ≡ clone_item c (decode (drop (k * 70) source))) × (comes_first (clones c (from source k)) (from segment j) ≡ true)
+    LeadingCopy j k None = comes_first (clones c (from source k)) (from segment j) ≡ false
 
     -- the first of them and what is left behind it, or that none is left
     pub record IsNext (j k : ℕ) (next : Option Next) : Type 0 where
@@ -85,9 +66,6 @@ module _ (c : Copying) (source : List ℕ) where
 
       -- what a step asks: an item is left, and the number of edits stays below 2^64
       pub record Ready (at : MergeCursor) : Type 0 where
-        pub copies : Copyables c (items source)
-        pub rise : pairs rises (clones c (items source)) ≡ true
-        pub olds : pairs rises (items was) ≡ true
         pub good : Good at
         pub some : at.i + (at.j + at.k) < length was / 70 + (length segment / 70 + length source / 70)
         pub n : at.n + 1 < 2 ^ 64

@@ -9,11 +9,11 @@ use Rattle.item.proofs.Laws.{items-length}
 use Rattle.edit_merge.specs.Merge.{from}
 use Rattle.clone_items.specs.Copies.{copied}
 use Rattle.edit_merge.proofs.News.{read_from}
-use Rattle.clone_copies.proofs.distance.Goals as goal
+use Rattle.clone_copies.proofs.Copies.distance.Goals as goal
 
 pub position-requires-clause-fits : goal.position-requires-clause-fits
 position-requires-clause-fits c = let r = c.reader_at.result in inl (omega (arith, length-drop r.number (items r.list.now), items-length r.list.now))
 
 pub returns : goal.returns
 returns c = let a = c.args in
-    position_from_yields_List {s = c.reader_at.result} (copied a.c) c.position.new.self _ c.position.result c.position.ensures.ran (YieldsList-from_first fields left (from a.source.now a.k) (read_from c.reader_at.result a.source a.k c.reader_at.ensures)) (λ x b q k. search (rules, tests))
+    position_from_yields_List {s = c.reader_at.result} (copied a.self.copying.range) c.position.new.self _ c.position.result c.position.ensures.ran (YieldsList-from_first fields left (from a.self.source.now a.k) (read_from c.reader_at.result a.self.source a.k c.reader_at.ensures)) (λ x b q k. search (rules, tests))
