@@ -1,1 +1,3 @@
 pub mod Segments
+pub mod Remade
+pub mod Making

@@ -2,6 +2,9 @@
 // the lent list, which is not copied.
 #![tactic(auto)]
 
+pub mod making;
+pub mod remade;
+
 ghost use Rattle.std.specs.Prelude.{◌≡◌, Bool, [], ◌∷◌, ◌++◌, ◌+◌, ◌-◌, ◌*◌, ◌≤◌, ◌<◌, ◌^◌, ltb, length, set, take, drop};
 ghost use Rattle.records.specs.Lent.{old, new};
 ghost use Rattle.records.specs.Select.{only};
@@ -10,7 +13,9 @@ ghost use Rattle.cut_def.specs.Cuts.{front, back};
 ghost use Rattle.cut_segment.specs.Segments.{item_at, Added, leading, ends_by, starts_by, Leads, Answers, Runs, runs_prop, Touching, Cutting, Inserted};
 
 use item::{Item, RECORD};
+pub use making::Making;
 use records::{sum_at_most, sum_past};
+pub use remade::Remade;
 use std::ops::Range;
 
 // Records from..to of a list make way for the first `count` records of a buffer. They are no `Range`: that is not `Copy`, and
@@ -45,6 +50,14 @@ pub fn record_at(list: &[u8], n: usize) -> Item
     ensures { fields result ≡ item_at list.now n }
 {
     item::item_at(list, n)
+}
+
+// Records from..to of a list.
+pub fn records_in<'a>(list: &'a [u8], from: usize, to: usize) -> &'a [u8]
+    requires { (from ≤ to) × (to ≤ length (items list.now)) }
+    ensures { items result.now ≡ take (to - from) (drop from (items list.now)) }
+{
+    &list[from * RECORD..to * RECORD]
 }
 
 // An item as record n of a buffer.
@@ -134,7 +147,10 @@ impl<'a> Running<'a> {
     pub fn ending_by(self, lo: u64) -> usize
         ensures { result ≡ leading (ends_by lo) (items self.entry.records.now) }
     {
-        leading(self.records, |item| sum_at_most(item.key, item.length(), lo))
+        leading(
+            self.records,
+            |item| sum_at_most(item.key, item.length(), lo),
+        )
     }
 
     // How many start at most at a key.
@@ -155,7 +171,7 @@ impl<'a> Running<'a> {
     }
 
     // [lo, hi) taken out of a list: the records that it touches make way for the first one's front and the last one's back.
-    pub fn cut(self, lo: u64, hi: u64, seg: &mut [u8]) -> Segment
+    fn cut_segment(self, lo: u64, hi: u64, seg: &mut [u8]) -> Segment
         requires { 140 ≤ length seg.old }
         ensures { Cutting lo hi self.entry.records.now result seg.new }
     {
@@ -183,7 +199,7 @@ fn slide(seg: &mut [u8], k: usize, n: usize, item: Item)
 }
 
 // An item put among a segment's, at its key.
-pub fn insert_item(seg: &mut [u8], s: Segment, item: Item) -> Segment
+fn insert_item(seg: &mut [u8], s: Segment, item: Item) -> Segment
     requires { (s.count + 1) * 70 ≤ length seg.old }
     ensures { Inserted (fields item) s seg.old result seg.new }
 {

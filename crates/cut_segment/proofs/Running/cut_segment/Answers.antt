@@ -7,7 +7,7 @@ use Prim.Native.Nat.{◌≤◌, ◌<◌}
 use lib.ListN.{length}
 use native.Mathlib.Omega.{arith}
 use borrow.Author.Rules.{rules}
-use Rattle.cut_segment.proofs.Running.cut.Goals as goal
+use Rattle.cut_segment.proofs.Running.cut_segment.Goals as goal
 
 pub returns-then-from-to : goal.returns-then-from-to
 returns-then-from-to c = cut-untouched _ _ _ _ c.args.self.runs c.touched-found.ensures _ c.if-from-to.true
