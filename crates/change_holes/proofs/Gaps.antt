@@ -4,15 +4,15 @@ use mathlib.Core.List.{List, [], ◌∷◌, flat_map}
 use Prim.Native.Nat.{ℕ, zero, suc, ◌+◌, ◌-◌, ◌*◌, ◌/◌, ◌%◌, ◌≤◌, ◌<◌, ◌^◌, min, max}
 use native.Mathlib.Omega.{arith}
 use lib.Dec.{leb}
-use lib.ListN.{drop, get_or, length}
+use lib.ListN.{get_or, length}
 use borrow.Author.Tests.{leb-true}
 use Rattle.records.proofs.Tests.{every-at}
-use Rattle.item.specs.declared.Item.{Item}
-use Rattle.item.specs.Items.{Fields, fields, item_of, items, end}
-use Rattle.item.proofs.Laws.{item-decode, items-length, items_at}
+use Rattle.item.specs.Items.{Fields, items, end}
+use Rattle.item.proofs.Laws.{items-length}
+use Rattle.cut_segment.specs.Segments.{nothing, item_at}
 use Rattle.change_def.specs.Preallocs.{Stretch}
 use Rattle.change_def.specs.Sweep.{up_to, gaps_from, sweep}
-use Rattle.change_holes.specs.Walk.{Ends, gap_start, gap_stop}
+use Rattle.change_holes.specs.Gaps.{Ends, gap_start, gap_stop}
 
 -- ---- a gap's ends from the items
 
@@ -35,26 +35,18 @@ stop_last to (f ∷ fs) = stop_last to fs
 
 -- ---- the same from the records in code
 
--- record n
-module _ (list : List ℕ) (n : ℕ) (r : Item) (h : n < length (items list)) (e : r ≡ item_of (drop (n * 70) list)) where
-  is-item : get_or (items list) n (fields r) ≡ fields r
-  is-item = items_at list n (fields r) (omega (arith, items-length list)) ∙ sym (item-decode r (drop (n * 70) list) e)
+-- record n: where it ends, in 64 bits; the gap behind it starts there, and the gap before it stops at its key
+module _ (list : List ℕ) (n : ℕ) (x : Fields) (h : n < length (items list)) (e : x ≡ item_at list n) where
+  pub record_end : Ends (items list) → end x ≤ 2 ^ 63
+  record_end k = rw e (leb-true (end (item_at list n)) (2 ^ 63) (every-at (λ (f : Fields). leb (end f) (2 ^ 63)) (items list) k n nothing h))
 
-  -- where it ends, in 64 bits; the gap behind it starts there
-  module _ (l : ℕ) (q : l ≡ (fields r).length) where
-    pub record_end : Ends (items list) → (fields r).key + l ≤ 2 ^ 63
-    record_end k =
-        let g : Fields = get_or (items list) n (fields r) in
-        rw (is-item, ← q) at (leb-true (end g) (2 ^ 63) (every-at (λ (f : Fields). leb (end f) (2 ^ 63)) (items list) k n (fields r) h))
+  pub starts-behind : (from k : ℕ) → n + 1 ≡ k → max from (end x) ≡ gap_start from (items list) k
+  starts-behind from k m =
+      let s : k ≡ suc n = omega arith in
+      rw (s, e) (sym (start-behind from (items list) n nothing h))
 
-    pub starts-behind : (from k : ℕ) → n + 1 ≡ k → max from ((fields r).key + l) ≡ gap_start from (items list) k
-    starts-behind from k m =
-        let s : k ≡ suc n = omega arith in
-        rw (s, q) (sym (start-behind from (items list) n (fields r) h ∙ ap (λ (f : Fields). max from (end f)) is-item))
-
-  -- the gap before it
-  pub stops_before : (to : ℕ) → min (fields r).key to ≡ gap_stop to (items list) n
-  stops_before to = sym (stop_before to (items list) n (fields r) h ∙ ap (λ (f : Fields). min f.key to) is-item)
+  pub stops_before : (to : ℕ) → min x.key to ≡ gap_stop to (items list) n
+  stops_before to = rw e (sym (stop_before to (items list) n nothing h))
 
 -- the first gap starts at the start
 pub starts_first : (from : ℕ) (fs : List Fields) (n : ℕ) → n ≡ 0 → from ≡ gap_start from fs n

@@ -1,9 +1,9 @@
 -- The pieces of a stretch one by one, and their number in all. Assumes nothing.
-use mathlib.Core.Path.{◌≡◌, refl, ap₂, ◌∙◌}
+use mathlib.Core.Path.{◌≡◌, refl, ap₂}
 use mathlib.Core.List.{List, [], ◌∷◌, flat_map}
 use Prim.Native.Nat.{ℕ, zero, suc, ◌+◌, ◌-◌, ◌*◌, ◌/◌, ◌≤◌, ◌<◌, min}
 use native.Mathlib.Omega.{arith}
-use native.Mathlib.Nat.{add-zero, zero-add, zero-mul, add-mul, one-mul, sub-zero, div-eq_of_lt, div-eq-sub-div}
+use native.Mathlib.Nat.{add-zero, zero-mul, add-mul, one-mul, sub-zero, div-eq_of_lt, div-eq-sub-div}
 use native.Mathlib.Decide.{dec_lt}
 use lib.ListN.{length, length-append}
 use Rattle.change_def.specs.Preallocs.{Stretch, piece_limit, piece_count, pieces_from, prealloc_pieces, sum_of}
@@ -56,41 +56,18 @@ module _ (limit : ℕ) (pos : 0 < limit) (s : Stretch) where
 
 -- ---- sums
 
+-- the pieces of no stretch, and of one more
+pub no_pieces : length (flat_map (prealloc_pieces piece_limit) []) ≡ 0
+unfolding flat_map
+no_pieces = refl
+
+pub pieces_more : (s : Stretch) (ss : List Stretch) → length (flat_map (prealloc_pieces piece_limit) (s ∷ ss)) ≡ piece_count piece_limit s.length + length (flat_map (prealloc_pieces piece_limit) ss)
+unfolding flat_map
+pieces_more s ss = rw (length-append, pieces-length) refl
+
 -- no piece is empty, so there are at most as many as bytes
-pub pieces-few : (ss : List Stretch) → length (flat_map (prealloc_pieces piece_limit) ss) ≤ sum_of ss
+pub pieces_few : (ss : List Stretch) → length (flat_map (prealloc_pieces piece_limit) ss) ≤ sum_of ss
 unfolding sum_of flat_map
-pieces-few [] = omega arith
-pieces-few (s ∷ ss) =
-    omega (arith, length-append (prealloc_pieces piece_limit s) (flat_map (prealloc_pieces piece_limit) ss), pieces-length piece_limit s, pieces-few ss)
-
--- what is summed, and what is left, is the whole
-pub record Summed (ss rest : List Stretch) (b p : ℕ) : Type 0 where
-  pub bytes : b + sum_of rest ≡ sum_of ss
-  pub pieces : p + length (flat_map (prealloc_pieces piece_limit) rest) ≡ length (flat_map (prealloc_pieces piece_limit) ss)
-
-pub summed_first : (ss : List Stretch) → Summed ss ss 0 0
-summed_first ss = record { bytes = zero-add _; pieces = zero-add _ }
-
--- a turn: the next stretch is l long and has k pieces
-module _ (ss rest more : List Stretch) (s : Stretch) (b p l k : ℕ) (u : Summed ss rest b p) (h : rest ≡ s ∷ more) (el : l ≡ s.length) (ek : k ≡ piece_count piece_limit l) where
-  sum_next : sum_of rest ≡ l + sum_of more
-  unfolding sum_of
-  sum_next = rw (h, ← el) refl
-
-  pieces-next : length (flat_map (prealloc_pieces piece_limit) rest) ≡ k + length (flat_map (prealloc_pieces piece_limit) more)
-  unfolding flat_map
-  pieces-next = rw h (length-append (prealloc_pieces piece_limit s) _ ∙ rw (pieces-length, ← el, ← ek) refl)
-
-  pub summed_turn : Summed ss more (b + l) (p + k)
-  summed_turn = record { bytes = omega (arith, u.bytes, sum_next); pieces = omega (arith, u.pieces, pieces-next) }
-
-  -- the sums stay within the whole
-  pub summed_bytes : b + l ≤ sum_of ss
-  summed_bytes = omega (arith, u.bytes, sum_next)
-
-  pub summed_pieces : p + k ≤ sum_of ss
-  summed_pieces = omega (arith, u.pieces, pieces-next, pieces-few ss)
-
-pub summed_last : (ss rest : List Stretch) (b p : ℕ) → Summed ss rest b p → rest ≡ [] → (b ≡ sum_of ss) × (p ≡ length (flat_map (prealloc_pieces piece_limit) ss))
-unfolding sum_of flat_map
-summed_last ss rest b p u h = (rw (h, add-zero) at u.bytes, rw (h, add-zero) at u.pieces)
+pieces_few [] = omega arith
+pieces_few (s ∷ ss) =
+    omega (arith, length-append (prealloc_pieces piece_limit s) (flat_map (prealloc_pieces piece_limit) ss), pieces-length piece_limit s, pieces_few ss)

@@ -8,7 +8,7 @@ pub returns-then-self-clause-steps : goal.returns-then-self-clause-steps
 returns-then-self-clause-steps c = let h = stretches_none c.args.self.now c.if-self.true in (h, h)
 
 pub stretch_at-s-requires : goal.stretch_at-s-requires
-stretch_at-s-requires c = (c.requires, omega (arith, c.if-self.false, items-length c.args.self.now.list.now))
+stretch_at-s-requires c = omega (arith, c.if-self.false, items-length c.args.self.now.wishes.list.now)
 
 pub returns-clause-steps : goal.returns-clause-steps
 returns-clause-steps c = stretches_more c.args.self.now _ c.if-self.false c.stretch_at-s.ensures

@@ -1,36 +1,32 @@
-use Rattle.std.proofs.Common.{rules, length, ap}
+use Rattle.std.proofs.Common.{◌≡◌, ◌<◌, rules, tests, length, ap, refl}
 use mathlib.Core.Path.{◌∙◌, sym}
 use native.Mathlib.Omega.{arith}
+use borrow.Author.Tests.{leb-false}
 use Prim.Native.Nat.{ℕ, min}
 use Rattle.change_def.specs.Preallocs.{piece_limit}
-use Rattle.change_holes.proofs.Walking.{stretches_next, stretches_end, left-turn, left-none, left_cons}
+use Rattle.change_holes.specs.Walk.{left}
+use Rattle.change_holes.proofs.Walking.{found-none, found-some, left_cons}
 use Rattle.change_holes.proofs.WalkerIterator.next.Goals as goal
+use Rattle.change_holes.proofs.WalkerIterator.next.Goals.{After-length, then-is_empty+in_ok-self, else-is_empty}
 
-pub loop-self-preserved : goal.loop-self-preserved
-loop-self-preserved c =
-    let q = c.loop-self in (
-      left-turn q.self.rest c.loop-self-test.true q.self.stretches c.next.new.self c.in-Some.s (stretches_next q.self.stretches c.next.new.self _ _ c.in-Some.is c.next.ensures.steps) ∙ q.invariant.0,
-      rw c.in-Some.is at c.next.ensures.goes.keeps,
-    )
+pub returns-in_err-self-clause-steps : goal.returns-in_err-self-clause-steps
+returns-in_err-self-clause-steps c =
+    let s = c.args.self.now in
+    rw c.from_residual.ensures (found-none _ _ (λ x b q e. search (rules, tests)) s.rest (sym c.is_empty.ensures ∙ c.if-is_empty.true) s.stretches c.find.new.self c.in_err-self.ensures.ran)
 
-pub returns-in_default-clause-steps : goal.returns-in_default-clause-steps
-returns-in_default-clause-steps c =
-    let q = c.loop-self in
-    let e = stretches_end q.self.stretches c.next.new.self _ c.in_default.is c.next.ensures.steps in
-    let h = c.loop-self-test.true in
-    (sym q.invariant.0 ∙ left-none q.self.rest h q.self.stretches e.0, left-none q.self.rest h c.next.new.self e.1)
+-- what is left begins with a rest that is not empty
+settled : (c : After-length) → (left c.args.self.now ≡ left c.if-is_empty.self) × (c.if-is_empty.self.rest.start < c.if-is_empty.self.rest.stop)
+settled c =
+    let s = c.args.self.now in
+    elim c.if-is_empty.branch [
+      | then-is_empty+in_ok-self w ↦ rw w.self-is (found-some _ _ (λ x b q e. search (rules, tests)) s.rest (sym c.is_empty.ensures ∙ w.if-is_empty.true) s.stretches w.find.new.self _ w.in_ok-self.ensures.ran)
+      | else-is_empty w ↦ rw w.self-is (refl, leb-false _ _ (sym c.is_empty.ensures ∙ w.if-is_empty.false))
+    ]
 
 pub returns-clause-steps : goal.returns-clause-steps
 returns-clause-steps c =
-    let q = c.loop-self in
-    rw c.behind-self.ensures (sym q.invariant.0 ∙ left_cons q.self _ c.loop-self-test.false (c.min-length.ensures ∙ ap (λ (n : ℕ). min n piece_limit) c.length_of.ensures))
+    let e = settled (goal.at.returns-clause-steps c).After-length in
+    rw c.behind-self.ensures (e.0 ∙ left_cons c.if-is_empty.self _ e.1 (c.min-length.ensures ∙ ap (λ (n : ℕ). min n piece_limit) c.length.ensures))
 
 pub returns-clause-goes : goal.returns-clause-goes
-returns-clause-goes c =
-    let q = c.loop-self in
-    let ends = q.invariant.1 in
-    let n = ap length (sym q.invariant.0 ∙ left_cons q.self _ c.loop-self-test.false (c.min-length.ensures ∙ ap (λ (n : ℕ). min n piece_limit) c.length_of.ensures)) in
-    rw c.behind-self.ensures (search (rules, arith, ends))
-
-pub behind-self-requires : goal.behind-self-requires
-behind-self-requires c = omega (arith, c.min-length.ensures, c.length_of.ensures, c.loop-self-test.false)
+returns-clause-goes c = let n = ap length (returns-clause-steps c) in search (rules, arith)
