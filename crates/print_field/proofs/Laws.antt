@@ -1,28 +1,14 @@
--- The laws of fields: one that is shown where its number is not 0, and their lengths. Assumes nothing.
-use mathlib.Core.Path.{◌≡◌, refl}
+-- How long fields are. Assumes nothing.
+use mathlib.Core.Path.{◌≡◌}
 use mathlib.Core.Bool.{Bool, true, false, cond}
 use mathlib.Core.List.{List, []}
 use Prim.Native.Nat.{ℕ, ◌+◌, ◌≤◌}
 use native.Mathlib.Omega.{arith}
 use lib.Dec.{eqb}
 use lib.ListN.{length}
-use borrow.Author.Tests.{eq-eqb, ne_eqb}
-use Rattle.print_field.specs.Text.{decimal, Added}
-use Rattle.print_field.proofs.Parts.{added_none, length_parts, length_none}
+use Rattle.print_field.specs.Text.{decimal}
+use Rattle.print_field.proofs.Parts.{length_parts, length_none}
 use Rattle.print_field.specs.Fields.{spaced, field, pair, unless_zero}
-
-no_field : (name : List ℕ) (n : ℕ) → n ≡ 0 → unless_zero name n ≡ []
-unfolding unless_zero
-no_field name n h = rw (eq-eqb n 0 h) refl
-
-pub a_field : (name : List ℕ) (n : ℕ) → (n ≡ 0 → ⊥) → unless_zero name n ≡ field name n
-unfolding unless_zero
-a_field name n h = rw (ne_eqb n 0 h) refl
-
-pub added-no-field : (name : List ℕ) (n at : ℕ) (d : List ℕ) → n ≡ 0 → Added (unless_zero name n) at d at d
-added-no-field name n at d h = rw (no_field name n h) (added_none at d)
-
--- ---- how long fields are
 
 pub length-spaced : (n : ℕ) → length (spaced n) ≡ length (decimal n) + 1
 unfolding spaced

@@ -1,7 +1,7 @@
-pub mod Decimal
 pub mod Parts
-pub mod NumberExamples
+pub mod Decimal
 pub mod Laws
-pub mod FieldExamples
 pub mod Bounds
+pub mod NumberExamples
+pub mod FieldExamples
 pub mod PutExamples

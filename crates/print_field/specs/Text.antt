@@ -1,6 +1,5 @@
 -- Numbers as text (document 01, "extplan": "decimal, a form a line").
-use Rattle.std.specs.Prelude.{List, [], ◌∷◌, ◌++◌, ◌≡◌, ℕ, zero, suc, ◌+◌, ◌/◌, ◌%◌, length}
-use Rattle.endian.specs.Le.{put}
+use Rattle.std.specs.Prelude.{List, [], ◌∷◌, ◌++◌, ℕ, zero, suc, ◌+◌, ◌/◌, ◌%◌}
 
 -- the character of a number below 10: 48 is that of 0
 abbrev pub digit : ℕ → ℕ
@@ -20,8 +19,3 @@ decimal n = digits n (n / 10) (n % 10)
 unfoldable pub joined : List (List ℕ) → List ℕ
 joined [] = []
 joined (p ∷ ps) = p ++ joined ps
-
--- what a function that appends bytes does: they lie in d from `at` on, and r is the place behind them; all else is as it was
-pub record Added (bytes : List ℕ) (at : ℕ) (d : List ℕ) (r : ℕ) (d' : List ℕ) : Type 0 where
-  pub next : r ≡ at + length bytes
-  pub output : d' ≡ put bytes at d

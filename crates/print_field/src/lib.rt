@@ -1,123 +1,133 @@
-// What a printed line is made of, appended to a buffer: text, decimal numbers, fields, and the line of an item that is put. The
-// result is the place behind what was put.
-#![tactic(auto)]
+// What a printed line is made of: a line of at most 256 bytes, to which texts, decimal numbers and fields are appended, and the
+// line of an item that is put.
+#![tactic(auto, using(crate::proofs::Parts::parts), unfolding(crate::specs::Fields::spaced, crate::specs::Fields::field, crate::specs::Fields::pair, crate::specs::Puts::item_fields, crate::specs::Puts::added_fields, crate::specs::Puts::put_line))]
 
-ghost use Rattle.std.specs.Prelude.{◌+◌, ◌≤◌, length};
-ghost use Rattle.records.specs.Lent.{old, new};
-ghost use Rattle.print_field.specs.Text.{decimal, Added};
+ghost use Rattle.std.specs.Prelude.{◌≡◌, ◌≤◌, ◌++◌, List, [], ℕ, length, take};
+ghost use Rattle.print_field.specs.Text.{decimal};
 ghost use Rattle.print_field.specs.Fields.{spaced, field, pair, unless_zero};
 ghost use Rattle.item.specs.Items.{fields};
 ghost use Rattle.print_field.specs.Puts.{item_fields, added_fields, put_line};
 
 use item::Item;
+use std::marker::Model;
 
-// ---- text and numbers
-
-// A text.
-pub fn put_text(out: &mut [u8], at: usize, text: &[u8]) -> usize
-    requires { at + length text.now ≤ length out.old }
-    ensures { Added text.now at out.old result out.new }
-{
-    out[at..at + text.len()].copy_from_slice(text);
-    at + text.len()
+// A line as it is put together; a contract sees its bytes. What no longer fits is dropped: no line that is printed is so long.
+#[derive(Drop)]
+pub struct Line {
+    bytes: [u8; 256],
+    used: usize,
 }
 
-// A number; its digits are stored from the last to the first, and then copied.
-pub fn put_number(out: &mut [u8], at: usize, n: u64) -> usize
-    requires { at + length (decimal n) ≤ length out.old }
-    ensures { Added (decimal n) at out.old result out.new }
-{
-    let mut digits = [0u8; 20];
-    let mut i: usize = 20;
-    let mut rest = n;
-    while rest >= 10 {
-        i -= 1;
-        digits[i] = b'0' + (rest % 10) as u8;
-        rest /= 10;
+impl Model for Line {
+    ghost Value = { List ℕ };
+
+    ghost view = { λ l. take l.used l.bytes };
+
+    ghost invariant = { λ l. l.used ≤ 256 };
+}
+
+impl Line {
+    pub fn new() -> Self
+        ensures { result ≡ [] }
+    {
+        Line {
+            bytes: [0; 256],
+            used: 0,
+        }
     }
-    i -= 1;
-    digits[i] = b'0' + rest as u8;
-    endian::copy(&digits, i, out, at, 20 - i);
-    at + (20 - i)
-}
 
-// ---- fields
-
-// A space and a number.
-pub fn put_spaced(out: &mut [u8], at: usize, n: u64) -> usize
-    requires { at + length (spaced n) ≤ length out.old }
-    ensures { Added (spaced n) at out.old result out.new }
-{
-    let a = put_text(out, at, b" ");
-    put_number(out, a, n)
-}
-
-// A field with one number.
-pub fn put_field(out: &mut [u8], at: usize, name: &[u8], n: u64) -> usize
-    requires { at + length (field name.now n) ≤ length out.old }
-    ensures { Added (field name.now n) at out.old result out.new }
-{
-    let a = put_text(out, at, b" (");
-    let b = put_text(out, a, name);
-    let c = put_spaced(out, b, n);
-    put_text(out, c, b")")
-}
-
-// A field with two numbers.
-pub fn put_pair(out: &mut [u8], at: usize, name: &[u8], n: u64, m: u64) -> usize
-    requires { at + length (pair name.now n m) ≤ length out.old }
-    ensures { Added (pair name.now n m) at out.old result out.new }
-{
-    let a = put_text(out, at, b" (");
-    let b = put_text(out, a, name);
-    let c = put_spaced(out, b, n);
-    let d = put_spaced(out, c, m);
-    put_text(out, d, b")")
-}
-
-// A field with one number, where that is not 0.
-pub fn put_unless_zero(out: &mut [u8], at: usize, name: &[u8], n: u64) -> usize
-    requires { at + length (unless_zero name.now n) ≤ length out.old }
-    ensures { Added (unless_zero name.now n) at out.old result out.new }
-{
-    if n == 0 {
-        return at;
+    pub fn bytes(&self) -> &[u8]
+        ensures { result.now ≡ self.now }
+    {
+        &self.bytes[..self.used]
     }
-    put_field(out, at, name, n)
-}
 
-// ---- an item that is put
+    // A text.
+    pub fn text(&mut self, text: &[u8])
+        ensures { self.new ≡ take 256 (self.old ++ text.now) }
+    {
+        let n = (256 - self.used).min(text.len());
+        self.bytes[self.used..self.used + n].copy_from_slice(&text[..n]);
+        self.used += n;
+    }
 
-// The fields that every put has.
-fn put_item_fields(out: &mut [u8], at: usize, item: Item) -> usize
-    requires { at + length (item_fields (fields item)) ≤ length out.old }
-    ensures { Added (item_fields (fields item)) at out.old result out.new }
-{
-    let a = put_field(out, at, b"key", item.key);
-    let b = put_field(out, a, b"kind", item.kind_byte() as u64);
-    let c = put_pair(out, b, b"extent", item.extent_start(), item.extent_length());
-    put_pair(out, c, b"window", item.position(), item.length())
-}
+    // A number.
+    #[tactic(auto, using(crate::proofs::Decimal::as_written))]
+    pub fn number(&mut self, n: u64)
+        ensures { self.new ≡ take 256 (self.old ++ decimal n) }
+    {
+        let mut buffer = itoa::Buffer::new();
+        self.text(buffer.format(n).as_bytes());
+    }
 
-// The fields that it has where they are not 0.
-fn put_added_fields(out: &mut [u8], at: usize, item: Item) -> usize
-    requires { at + length (added_fields (fields item)) ≤ length out.old }
-    ensures { Added (added_fields (fields item)) at out.old result out.new }
-{
-    let a = put_unless_zero(out, at, b"generation", item.generation());
-    let b = put_unless_zero(out, a, b"ram", item.ram());
-    let c = put_unless_zero(out, b, b"compression", item.compression() as u64);
-    let d = put_unless_zero(out, c, b"encryption", item.encryption() as u64);
-    put_unless_zero(out, d, b"other", item.other() as u64)
-}
+    // A space and a number.
+    pub fn spaced(&mut self, n: u64)
+        ensures { self.new ≡ take 256 (self.old ++ spaced n) }
+    {
+        self.text(b" ");
+        self.number(n);
+    }
 
-// An item that is put.
-pub fn put_put(out: &mut [u8], at: usize, item: Item) -> usize
-    requires { at + length (put_line (fields item)) ≤ length out.old }
-    ensures { Added (put_line (fields item)) at out.old result out.new }
-{
-    let a = put_text(out, at, b"(put");
-    let b = put_item_fields(out, a, item);
-    let c = put_added_fields(out, b, item);
-    put_text(out, c, b")\n")
+    // A field with one number.
+    pub fn field(&mut self, name: &[u8], n: u64)
+        ensures { self.new ≡ take 256 (self.old ++ field name.now n) }
+    {
+        self.text(b" (");
+        self.text(name);
+        self.spaced(n);
+        self.text(b")");
+    }
+
+    // A field with two numbers.
+    pub fn pair(&mut self, name: &[u8], n: u64, m: u64)
+        ensures { self.new ≡ take 256 (self.old ++ pair name.now n m) }
+    {
+        self.text(b" (");
+        self.text(name);
+        self.spaced(n);
+        self.spaced(m);
+        self.text(b")");
+    }
+
+    // A field with one number, where that is not 0.
+    #[tactic(auto, using(crate::proofs::Parts::nothing_kept), unfolding(crate::specs::Fields::unless_zero))]
+    pub fn unless_zero(&mut self, name: &[u8], n: u64)
+        ensures { self.new ≡ take 256 (self.old ++ unless_zero name.now n) }
+    {
+        let _ = &self.used; // a line is not longer than it may be
+        if n != 0 {
+            self.field(name, n);
+        }
+    }
+
+    // The fields that every put has.
+    fn item_fields(&mut self, item: Item)
+        ensures { self.new ≡ take 256 (self.old ++ item_fields (fields item)) }
+    {
+        self.field(b"key", item.key);
+        self.field(b"kind", item.kind_byte() as u64);
+        self.pair(b"extent", item.extent_start(), item.extent_length());
+        self.pair(b"window", item.position(), item.length());
+    }
+
+    // The fields that it has where they are not 0.
+    fn added_fields(&mut self, item: Item)
+        ensures { self.new ≡ take 256 (self.old ++ added_fields (fields item)) }
+    {
+        self.unless_zero(b"generation", item.generation());
+        self.unless_zero(b"ram", item.ram());
+        self.unless_zero(b"compression", item.compression() as u64);
+        self.unless_zero(b"encryption", item.encryption() as u64);
+        self.unless_zero(b"other", item.other() as u64);
+    }
+
+    // The line of an item that is put.
+    pub fn put(&mut self, item: Item)
+        ensures { self.new ≡ take 256 (self.old ++ put_line (fields item)) }
+    {
+        self.text(b"(put");
+        self.item_fields(item);
+        self.added_fields(item);
+        self.text(b")\n");
+    }
 }

@@ -1,51 +1,62 @@
-// Line n of one output of a plan, printed at the start of a buffer. The result is its length.
+// Line n of one output of a plan.
 #![tactic(auto)]
 
-ghost use Rattle.std.specs.Prelude.{◌*◌, ◌/◌, ◌≤◌, ◌<◌, length, drop};
-ghost use Rattle.records.specs.Lent.{old, new};
-ghost use Rattle.print_field.specs.Text.{Added};
+ghost use Rattle.std.specs.Prelude.{◌≡◌, ◌*◌, ◌/◌, ◌≤◌, ◌<◌, length, drop};
 ghost use Rattle.plan_def.specs.ReadBack.{edit_in, ref_in, add_in, write_in};
 ghost use Rattle.print_line.specs.Lines.{edit_line, ref_line, add_line, write_line};
 
+use print_field::Line;
+
 // An edit.
-pub fn edit_line(edits: &[u8], n: usize, out: &mut [u8]) -> usize
-    requires { (n < length edits.now / 71) × (256 ≤ length out.old) }
-    ensures { Added (edit_line (edit_in (drop (n * 71) edits.now))) 0 out.old result out.new }
+pub fn edit_line(edits: &[u8], n: usize) -> Line
+    requires { n < length edits.now / 71 }
+    ensures { result ≡ edit_line (edit_in (drop (n * 71) edits.now)) }
 {
+    let mut line = Line::new();
     let item = plan_lines::edit_item(edits, n);
     if plan_lines::is_put(edits, n) {
-        return print_field::put_put(out, 0, item);
+        line.put(item);
+        return line;
     }
-    print_line::put_delete(out, 0, item.key)
+    print_line::put_delete(&mut line, item.key);
+    line
 }
 
 // A share, an unref or a release, by its word.
-pub fn ref_line(word: &[u8], refs: &[u64], n: usize, out: &mut [u8]) -> usize
-    requires { (length word.now ≤ 8) × (n < length refs.now / 2) × (256 ≤ length out.old) }
-    ensures { Added (ref_line word.now (ref_in (drop (n * 2) refs.now))) 0 out.old result out.new }
+#[tactic(auto, using(crate::proofs::Lines::ref_whole, crate::proofs::Lines::ref_read))]
+pub fn ref_line(word: &[u8], refs: &[u64], n: usize) -> Line
+    requires { (length word.now ≤ 8) × (n < length refs.now / 2) }
+    ensures { result ≡ ref_line word.now (ref_in (drop (n * 2) refs.now)) }
 {
-    print_line::put_ref(out, 0, word, refs[n * 2], refs[n * 2 + 1])
+    let mut line = Line::new();
+    print_line::put_ref(&mut line, word, refs[n * 2], refs[n * 2 + 1]);
+    line
 }
 
 // An add.
-pub fn add_line(adds: &[u64], n: usize, out: &mut [u8]) -> usize
-    requires { (n < length adds.now / 3) × (256 ≤ length out.old) }
-    ensures { Added (add_line (add_in (drop (n * 3) adds.now))) 0 out.old result out.new }
+#[tactic(auto, using(crate::proofs::Lines::add_whole, crate::proofs::Lines::add_read))]
+pub fn add_line(adds: &[u64], n: usize) -> Line
+    requires { n < length adds.now / 3 }
+    ensures { result ≡ add_line (add_in (drop (n * 3) adds.now)) }
 {
-    print_line::put_add(out, 0, adds[n * 3], adds[n * 3 + 1], adds[n * 3 + 2])
+    let mut line = Line::new();
+    print_line::put_add(&mut line, adds[n * 3], adds[n * 3 + 1], adds[n * 3 + 2]);
+    line
 }
 
 // A sector write.
-pub fn write_line(writes: &[u64], n: usize, out: &mut [u8]) -> usize
-    requires { (n < length writes.now / 4) × (256 ≤ length out.old) }
-    ensures { Added (write_line (write_in (drop (n * 4) writes.now))) 0 out.old result out.new }
+#[tactic(auto, using(crate::proofs::Lines::write_whole, crate::proofs::Lines::write_read))]
+pub fn write_line(writes: &[u64], n: usize) -> Line
+    requires { n < length writes.now / 4 }
+    ensures { result ≡ write_line (write_in (drop (n * 4) writes.now)) }
 {
+    let mut line = Line::new();
     print_line::put_write(
-        out,
-        0,
+        &mut line,
         writes[n * 4],
         writes[n * 4 + 1],
         writes[n * 4 + 2],
         writes[n * 4 + 3],
-    )
+    );
+    line
 }
