@@ -1,4 +1,3 @@
 pub mod Nth
-pub mod Choices
 pub mod Some
 pub mod Examples

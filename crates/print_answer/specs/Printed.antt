@@ -26,7 +26,7 @@ printed (plan p) = plan_lines p
 printed nothing = nothing_line ∷ []
 printed (refused n) = refused_line n ∷ []
 
--- ---- the same from the answer enum and the outputs
+-- ---- the same from the answer and the outputs
 
 -- the plan that lies in the outputs, with as many lines in each as its numbers say
 unfoldable pub plan_in : Numbers → Outs → Plan

@@ -1,145 +1,122 @@
-// What extplan prints for an answer: line n of it, put at the start of a buffer. Which output a line is from is found by
-// subtracting the numbers of lines, so a line costs the same wherever it stands.
+// What extplan prints for an answer: line n of it. Which output a line is from is found by subtracting the numbers of lines, so a
+// line costs the same wherever it stands.
 #![tactic(auto)]
 
-ghost use Rattle.std.specs.Prelude.{[], ◌∷◌, ◌*◌, ◌≤◌, length};
-ghost use Rattle.records.specs.Lent.{old, new};
-ghost use Rattle.records.specs.Records.{chunks};
+ghost use Rattle.std.specs.Prelude.{◌≡◌, [], ◌∷◌};
+ghost use Rattle.records.specs.Refusals.{number};
 ghost use Rattle.request.specs.Answers.{said};
-ghost use Rattle.plan_def.specs.Outputs.{outs};
-ghost use Rattle.plan_def.specs.ReadBack.{add_in, write_in};
-ghost use Rattle.print_field.specs.Text.{Added};
-ghost use Rattle.print_line.specs.Lines.{nothing_line, refused_line, fault_line};
+ghost use Rattle.plan_def.specs.Outputs.{outs_in};
+ghost use Rattle.print_line.specs.Lines.{nothing_line, refused_line, fault_line, plan_line};
 ghost use Rattle.print_answer.specs.Printed.{plan_lines, plan_in, shown, line_at, Holds, HoldsAnswer};
-ghost use Rattle.print_answer.specs.Raw.{last_lines, behind_edits};
 
+use plan_def::Outputs;
+use print_field::Line;
 use print_output::{add_line, edit_line, ref_line, write_line};
-use request::{Answer, Numbers};
+use records::refusal::Refusal;
+use request::Numbers;
 
-// A line of the adds and writes, of which there are so many each.
-fn last_line(
-    adds: &[u64],
-    some: usize,
-    writes: &[u64],
-    more: usize,
-    n: usize,
-    out: &mut [u8],
-) -> usize
-    requires { (some * 3 ≤ length adds.now) × (more * 4 ≤ length writes.now) × (256 ≤ length out.old) }
-    ensures { Added (line_at n (last_lines (chunks add_in 3 some adds.now) (chunks write_in 4 more writes.now))) 0 out.old result out.new }
+// A plan's first line.
+#[tactic(auto, using(print_line::proofs::Bounds::plan_whole))]
+fn plan_line(size: u64, bytes: u64, prealloc: bool) -> Line
+    ensures { result ≡ plan_line size bytes prealloc }
 {
-    if n < some {
-        return add_line(adds, n, out);
-    }
-    let i = n - some;
-    if i < more {
-        return write_line(writes, i, out);
-    }
-    0
-}
-
-// A line behind the edits.
-fn behind_edits(
-    p: Numbers,
-    shares: &[u64],
-    unrefs: &[u64],
-    releases: &[u64],
-    adds: &[u64],
-    writes: &[u64],
-    n: usize,
-    out: &mut [u8],
-) -> usize
-    requires { (p.shares * 2 ≤ length shares.now) × (p.unrefs * 2 ≤ length unrefs.now) × (p.releases * 2 ≤ length releases.now)
-        × (p.adds * 3 ≤ length adds.now) × (p.writes * 4 ≤ length writes.now) × (256 ≤ length out.old) }
-    ensures { Added (line_at n (behind_edits (plan_in p (outs [] shares.now unrefs.now releases.now adds.now writes.now)))) 0 out.old result out.new }
-{
-    if n < p.shares {
-        return ref_line(b"(share", shares, n, out);
-    }
-    let i = n - p.shares;
-    if i < p.unrefs {
-        return ref_line(b"(unref", unrefs, i, out);
-    }
-    let j = i - p.unrefs;
-    if j < p.releases {
-        return ref_line(b"(release", releases, j, out);
-    }
-    last_line(adds, p.adds, writes, p.writes, j - p.releases, out)
-}
-
-// A line of a plan.
-fn plan_line(
-    p: Numbers,
-    edits: &[u8],
-    shares: &[u64],
-    unrefs: &[u64],
-    releases: &[u64],
-    adds: &[u64],
-    writes: &[u64],
-    n: usize,
-    out: &mut [u8],
-) -> usize
-    requires { Holds p (outs edits.now shares.now unrefs.now releases.now adds.now writes.now) × (256 ≤ length out.old) }
-    ensures { Added (line_at n (plan_lines (plan_in p (outs edits.now shares.now unrefs.now releases.now adds.now writes.now)))) 0 out.old result out.new }
-{
-    if n == 0 {
-        return print_line::put_plan(out, 0, p.size, p.bytes, p.prealloc);
-    }
-    let i = n - 1;
-    if i < p.edits {
-        return edit_line(edits, i, out);
-    }
-    behind_edits(p, shares, unrefs, releases, adds, writes, i - p.edits, out)
+    let mut line = Line::new();
+    print_line::put_plan(&mut line, size, bytes, prealloc);
+    line
 }
 
 // The one line of nothing to do.
-fn nothing_line(n: usize, out: &mut [u8]) -> usize
-    requires { 256 ≤ length out.old }
-    ensures { Added (line_at n (nothing_line ∷ [])) 0 out.old result out.new }
+fn nothing_line() -> Line
+    ensures { result ≡ nothing_line }
 {
-    if n != 0 {
-        return 0;
-    }
-    print_line::put_nothing(out, 0)
+    let mut line = Line::new();
+    print_line::put_nothing(&mut line);
+    line
 }
 
 // The one line of a refusal.
-fn refused_line(why: u8, n: usize, out: &mut [u8]) -> usize
-    requires { 256 ≤ length out.old }
-    ensures { Added (line_at n (refused_line why ∷ [])) 0 out.old result out.new }
+#[tactic(auto, using(print_line::proofs::Bounds::number_whole))]
+fn refused_line(refusal: Refusal) -> Line
+    ensures { result ≡ refused_line (number refusal) }
 {
-    if n != 0 {
-        return 0;
-    }
-    print_line::put_refused(out, 0, why)
+    let mut line = Line::new();
+    print_line::put_refused(&mut line, refusal);
+    line
 }
 
 // What is printed, instead of an answer, for input whose line n is at fault.
-pub fn put_fault(n: u64, out: &mut [u8]) -> usize
-    requires { 256 ≤ length out.old }
-    ensures { Added (fault_line n) 0 out.old result out.new }
+#[tactic(auto, using(print_line::proofs::Bounds::number_whole))]
+pub fn fault_line(n: u64) -> Line
+    ensures { result ≡ fault_line n }
 {
-    print_line::put_fault(out, 0, n)
+    let mut line = Line::new();
+    print_line::put_fault(&mut line, n);
+    line
 }
 
-// Line n of an answer, and its length; 0, and nothing put, if there are not so many lines.
-pub fn answer_line(
-    answer: Answer,
-    edits: &[u8],
-    shares: &[u64],
-    unrefs: &[u64],
-    releases: &[u64],
-    adds: &[u64],
-    writes: &[u64],
-    n: usize,
-    out: &mut [u8],
-) -> usize
-    requires { HoldsAnswer (said answer) (outs edits.now shares.now unrefs.now releases.now adds.now writes.now) × (256 ≤ length out.old) }
-    ensures { Added (line_at n (shown answer (outs edits.now shares.now unrefs.now releases.now adds.now writes.now))) 0 out.old result out.new }
+// Line n of a single one.
+#[tactic(auto, using(crate::proofs::Nth::nth))]
+pub fn only_line(line: Line, n: usize) -> Line
+    ensures { result ≡ line_at n (line ∷ []) }
+{
+    if n == 0 { line } else { Line::new() }
+}
+
+// A plan as it lies in the outputs, which hold as many lines as its numbers say.
+#[derive(Clone, Copy)]
+struct Laid<'a, 'b> {
+    numbers: Numbers,
+    out: &'a Outputs<'b>,
+    ghost holds: { Holds numbers (outs_in out.now) },
+}
+
+impl Laid<'_, '_> {
+    // Line n of it.
+    #[tactic(auto, using(crate::proofs::Nth::nth), unfolding(crate::specs::Printed::plan_lines, crate::specs::Printed::plan_in))]
+    fn line(self, n: usize) -> Line
+        ensures { result ≡ line_at n (plan_lines (plan_in self.entry.numbers (outs_in self.entry.out.now))) }
+    {
+        let (p, out) = (self.numbers, self.out);
+        if n == 0 {
+            return plan_line(p.size, p.bytes, p.prealloc);
+        }
+        let n = n - 1;
+        if n < p.edits {
+            return edit_line(out.edits, n);
+        }
+        let n = n - p.edits;
+        if n < p.shares {
+            return ref_line(b"(share", out.shares, n);
+        }
+        let n = n - p.shares;
+        if n < p.unrefs {
+            return ref_line(b"(unref", out.unrefs, n);
+        }
+        let n = n - p.unrefs;
+        if n < p.releases {
+            return ref_line(b"(release", out.releases, n);
+        }
+        let n = n - p.releases;
+        if n < p.adds {
+            return add_line(out.adds, n);
+        }
+        let n = n - p.adds;
+        if n < p.writes {
+            return write_line(out.writes, n);
+        }
+        Line::new()
+    }
+}
+
+// Line n of an answer; an empty one if there are not so many lines.
+#[tactic(auto, unfolding(crate::specs::Printed::read_back, crate::specs::Printed::printed))]
+pub fn answer_line(answer: Result<Option<Numbers>, Refusal>, out: &Outputs, n: usize) -> Line
+    requires { HoldsAnswer (said answer) (outs_in out.now) }
+    ensures { result ≡ line_at n (shown answer (outs_in out.now)) }
 {
     match answer {
-        Answer::Planned(p) => plan_line(p, edits, shares, unrefs, releases, adds, writes, n, out),
-        Answer::Nothing => nothing_line(n, out),
-        Answer::Refused(why) => refused_line(why, n, out),
+        Ok(Some(numbers)) => Laid { numbers, out }.line(n),
+        Ok(None) => only_line(nothing_line(), n),
+        Err(refusal) => only_line(refused_line(refusal), n),
     }
 }

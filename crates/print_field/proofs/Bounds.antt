@@ -1,7 +1,9 @@
 -- How long the line of an item that is put can be. Assumes nothing.
+use mathlib.Core.Path.{◌≡◌}
 use Prim.Native.Nat.{◌≤◌}
 use native.Mathlib.Omega.{arith}
-use lib.ListN.{length}
+use lib.ListN.{length, take}
+use lib.Seq.{take_all}
 use Rattle.endian.specs.Le.{room}
 use Rattle.read_field.specs.Words.{bytes as text}
 use Rattle.print_field.specs.Text.{decimal}
@@ -41,6 +43,6 @@ short_added f s =
     ))
 
 -- with its end; an item of the largest numbers reaches it
-pub put_short : (f : Fields) → Sound f → length (put_line f) ≤ 256
+pub put_whole : (f : Fields) → Sound f → take 256 (put_line f) ≡ put_line f
 unfolding put_line
-put_short f s = simp (length_parts, length_none) (omega (arith, short_item f s, short_added f s))
+put_whole f s = take_all 256 (put_line f) (simp (length_parts, length_none) (omega (arith, short_item f s, short_added f s)))

@@ -1,9 +1,11 @@
--- How long the lines can be: each number of 64 bits has at most 20 digits. Assumes nothing.
+-- No line is too long: each number of 64 bits has at most 20 digits. Assumes nothing.
+use mathlib.Core.Path.{◌≡◌}
 use mathlib.Core.Bool.{Bool, true, false}
 use mathlib.Core.List.{List}
 use Prim.Native.Nat.{ℕ, ◌≤◌, ◌<◌, ◌^◌}
 use native.Mathlib.Omega.{arith}
-use lib.ListN.{length}
+use lib.ListN.{length, take}
+use lib.Seq.{take_all}
 use Rattle.print_field.specs.Text.{decimal}
 use Rattle.print_field.proofs.Decimal.{length_64}
 use Rattle.print_field.proofs.Parts.{length_parts, length_none}
@@ -12,46 +14,50 @@ use Rattle.cut_def.specs.Refs.{Ref}
 use Rattle.plan_def.specs.Plans.{Add, Write}
 use Rattle.print_line.specs.Lines.{mark, number_line, plan_line, delete_line, ref_line, add_line, write_line}
 
-pub number_short : (word : List ℕ) (n : ℕ) → length word ≤ 8 → n < 2 ^ 64 → length (number_line word n) ≤ 256
+pub number_whole : (word : List ℕ) (n : ℕ) → length word ≤ 8 → n < 2 ^ 64 → take 256 (number_line word n) ≡ number_line word n
 unfolding number_line
-number_short word n h a = let x : length (decimal n) ≤ 20 = length_64 n a in simp (length_parts, length_none, length-spaced) (omega arith)
+number_whole word n h a =
+    let x : length (decimal n) ≤ 20 = length_64 n a in
+    take_all 256 (number_line word n) (simp (length_parts, length_none, length-spaced) (omega arith))
 
-pub plan_short : (size bytes : ℕ) (prealloc : Bool) → size < 2 ^ 64 → bytes < 2 ^ 64 → length (plan_line size bytes prealloc) ≤ 256
+mark_small : (b : Bool) → mark b < 2 ^ 64
+mark_small true = omega arith
+mark_small false = omega arith
+
+pub plan_whole : (size bytes : ℕ) (prealloc : Bool) → size < 2 ^ 64 → bytes < 2 ^ 64 → take 256 (plan_line size bytes prealloc) ≡ plan_line size bytes prealloc
 unfolding plan_line
-plan_short size bytes prealloc a b =
+plan_whole size bytes prealloc a b =
     let x : length (decimal size) ≤ 20 = length_64 size a in
     let y : length (decimal bytes) ≤ 20 = length_64 bytes b in
-    let z : length (decimal (mark prealloc)) ≤ 20 = length_64 (mark prealloc) (small prealloc) in
-    simp (length_parts, length_none, length-field) (omega arith)
-  where
-    small : (b : Bool) → mark b < 2 ^ 64
-    small true = omega arith
-    small false = omega arith
+    let z : length (decimal (mark prealloc)) ≤ 20 = length_64 (mark prealloc) (mark_small prealloc) in
+    take_all 256 (plan_line size bytes prealloc) (simp (length_parts, length_none, length-field) (omega arith))
 
-pub delete_short : (key : ℕ) → key < 2 ^ 64 → length (delete_line key) ≤ 256
+pub delete_whole : (key : ℕ) → key < 2 ^ 64 → take 256 (delete_line key) ≡ delete_line key
 unfolding delete_line
-delete_short key a = let x : length (decimal key) ≤ 20 = length_64 key a in simp (length_parts, length_none, length-field) (omega arith)
+delete_whole key a =
+    let x : length (decimal key) ≤ 20 = length_64 key a in
+    take_all 256 (delete_line key) (simp (length_parts, length_none, length-field) (omega arith))
 
-pub ref_short : (word : List ℕ) (r : Ref) → length word ≤ 8 → r.start < 2 ^ 64 → r.offset < 2 ^ 64 → length (ref_line word r) ≤ 256
+pub ref_whole : (word : List ℕ) (r : Ref) → length word ≤ 8 → r.start < 2 ^ 64 → r.offset < 2 ^ 64 → take 256 (ref_line word r) ≡ ref_line word r
 unfolding ref_line
-ref_short word r h a b =
+ref_whole word r h a b =
     let x : length (decimal r.start) ≤ 20 = length_64 r.start a in
     let y : length (decimal r.offset) ≤ 20 = length_64 r.offset b in
-    simp (length_parts, length_none, length-field) (omega arith)
+    take_all 256 (ref_line word r) (simp (length_parts, length_none, length-field) (omega arith))
 
-pub add_short : (n : Add) → n.start < 2 ^ 64 → n.length < 2 ^ 64 → n.key < 2 ^ 64 → length (add_line n) ≤ 256
+pub add_whole : (n : Add) → n.start < 2 ^ 64 → n.length < 2 ^ 64 → n.key < 2 ^ 64 → take 256 (add_line n) ≡ add_line n
 unfolding add_line
-add_short n a b c =
+add_whole n a b c =
     let x : length (decimal n.start) ≤ 20 = length_64 n.start a in
     let y : length (decimal n.length) ≤ 20 = length_64 n.length b in
     let z : length (decimal n.key) ≤ 20 = length_64 n.key c in
-    simp (length_parts, length_none, length-field) (omega arith)
+    take_all 256 (add_line n) (simp (length_parts, length_none, length-field) (omega arith))
 
-pub write_short : (w : Write) → w.key < 2 ^ 64 → w.at < 2 ^ 64 → w.first < 2 ^ 64 → w.end < 2 ^ 64 → length (write_line w) ≤ 256
+pub write_whole : (w : Write) → w.key < 2 ^ 64 → w.at < 2 ^ 64 → w.first < 2 ^ 64 → w.end < 2 ^ 64 → take 256 (write_line w) ≡ write_line w
 unfolding write_line
-write_short w a b c d =
+write_whole w a b c d =
     let x : length (decimal w.key) ≤ 20 = length_64 w.key a in
     let y : length (decimal w.at) ≤ 20 = length_64 w.at b in
     let z : length (decimal w.first) ≤ 20 = length_64 w.first c in
     let u : length (decimal w.end) ≤ 20 = length_64 w.end d in
-    simp (length_parts, length_none, length-field, length-pair) (omega arith)
+    take_all 256 (write_line w) (simp (length_parts, length_none, length-field, length-pair) (omega arith))

@@ -2,9 +2,11 @@
 #![tactic(auto, using(print_field::proofs::Parts::parts), unfolding(crate::specs::Lines::number_line, crate::specs::Lines::plan_line, crate::specs::Lines::delete_line, crate::specs::Lines::ref_line, crate::specs::Lines::add_line, crate::specs::Lines::write_line))]
 
 ghost use Rattle.std.specs.Prelude.{◌≡◌, ◌++◌, take};
+ghost use Rattle.records.specs.Refusals.{number};
 ghost use Rattle.print_line.specs.Lines.{nothing_line, number_line, refused_line, fault_line, plan_line, delete_line, ref_line, add_line, write_line};
 
 use print_field::Line;
+use records::refusal::Refusal;
 
 // Nothing to do.
 pub fn put_nothing(line: &mut Line)
@@ -23,10 +25,10 @@ fn put_number_line(line: &mut Line, word: &[u8], n: u64)
 }
 
 // A refusal.
-pub fn put_refused(line: &mut Line, n: u8)
-    ensures { line.new ≡ take 256 (line.old ++ refused_line n) }
+pub fn put_refused(line: &mut Line, refusal: Refusal)
+    ensures { line.new ≡ take 256 (line.old ++ refused_line (number refusal)) }
 {
-    put_number_line(line, b"(refused", n as u64);
+    put_number_line(line, b"(refused", refusal.number() as u64);
 }
 
 // An input line that can't be read.

@@ -12,25 +12,14 @@ use Rattle.endian.proofs.Fields.{bytes_drop}
 use Rattle.item.specs.Items.{Fields, Sound, decode}
 use Rattle.item.proofs.Runs.{decode-sound}
 use Rattle.print_field.specs.Puts.{put_line}
-use Rattle.print_field.proofs.Bounds.{put_short}
+use Rattle.print_field.proofs.Bounds.{put_whole}
 use Rattle.cut_def.specs.Refs.{Ref}
 use Rattle.plan_def.specs.Plans.{Add, Write}
 use Rattle.plan_def.specs.ReadBack.{edit_in, ref_in, add_in, write_in}
 use Rattle.print_line.specs.Lines.{delete_line, edit_line, ref_line, add_line, write_line}
-use Rattle.print_line.proofs.Bounds.{delete_short, ref_short, add_short, write_short}
+use Rattle.print_line.proofs.Bounds.{delete_whole}
 
--- ---- lines of numbers
-
-pub ref_whole : (word : List ℕ) (r : Ref) → length word ≤ 8 → r.start < 2 ^ 64 → r.offset < 2 ^ 64 → take 256 (ref_line word r) ≡ ref_line word r
-ref_whole word r h a b = take_all 256 (ref_line word r) (ref_short word r h a b)
-
-pub add_whole : (n : Add) → n.start < 2 ^ 64 → n.length < 2 ^ 64 → n.key < 2 ^ 64 → take 256 (add_line n) ≡ add_line n
-add_whole n a b c = take_all 256 (add_line n) (add_short n a b c)
-
-pub write_whole : (w : Write) → w.key < 2 ^ 64 → w.at < 2 ^ 64 → w.first < 2 ^ 64 → w.end < 2 ^ 64 → take 256 (write_line w) ≡ write_line w
-write_whole w a b c d = take_all 256 (write_line w) (write_short w a b c d)
-
--- as the code reads them
+-- ---- lines of numbers, as the code reads them
 module _ (s : List ℕ) (n : ℕ) where
   pub ref_read : ref_in (drop (n * 2) s) ≡ record { start = get_or s (n * 2) 0; offset = get_or s (n * 2 + 1) 0 }
   unfolding ref_in
@@ -54,8 +43,8 @@ module _ (s : List ℕ) (f : Fields) (e : f ≡ decode (drop 1 s)) (b : Bytes s)
   module _ (t : Bool) (h : t ≡ eqb (get_or s 0 0) 1) where
     pub edit-put : t ≡ true → take 256 (put_line f) ≡ edit_line (edit_in s)
     unfolding edit_in
-    edit-put y = take_all 256 (put_line f) (put_short f sound) ∙ rw (sym h ∙ y, e) refl
+    edit-put y = put_whole f sound ∙ rw (sym h ∙ y, e) refl
 
     pub edit-delete : t ≡ false → take 256 (delete_line f.key) ≡ edit_line (edit_in s)
     unfolding edit_in room
-    edit-delete y = take_all 256 (delete_line f.key) (delete_short f.key sound.key) ∙ rw (sym h ∙ y, e) refl
+    edit-delete y = delete_whole f.key sound.key ∙ rw (sym h ∙ y, e) refl

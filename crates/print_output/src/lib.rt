@@ -23,7 +23,7 @@ pub fn edit_line(edits: &[u8], n: usize) -> Line
 }
 
 // A share, an unref or a release, by its word.
-#[tactic(auto, using(crate::proofs::Lines::ref_whole, crate::proofs::Lines::ref_read))]
+#[tactic(auto, using(print_line::proofs::Bounds::ref_whole, crate::proofs::Lines::ref_read))]
 pub fn ref_line(word: &[u8], refs: &[u64], n: usize) -> Line
     requires { (length word.now ≤ 8) × (n < length refs.now / 2) }
     ensures { result ≡ ref_line word.now (ref_in (drop (n * 2) refs.now)) }
@@ -34,7 +34,7 @@ pub fn ref_line(word: &[u8], refs: &[u64], n: usize) -> Line
 }
 
 // An add.
-#[tactic(auto, using(crate::proofs::Lines::add_whole, crate::proofs::Lines::add_read))]
+#[tactic(auto, using(print_line::proofs::Bounds::add_whole, crate::proofs::Lines::add_read))]
 pub fn add_line(adds: &[u64], n: usize) -> Line
     requires { n < length adds.now / 3 }
     ensures { result ≡ add_line (add_in (drop (n * 3) adds.now)) }
@@ -45,7 +45,7 @@ pub fn add_line(adds: &[u64], n: usize) -> Line
 }
 
 // A sector write.
-#[tactic(auto, using(crate::proofs::Lines::write_whole, crate::proofs::Lines::write_read))]
+#[tactic(auto, using(print_line::proofs::Bounds::write_whole, crate::proofs::Lines::write_read))]
 pub fn write_line(writes: &[u64], n: usize) -> Line
     requires { n < length writes.now / 4 }
     ensures { result ≡ write_line (write_in (drop (n * 4) writes.now)) }
