@@ -2,21 +2,19 @@
 use mathlib.Core.Path.{◌≡◌, refl, ◌∙◌, sym}
 use mathlib.Core.Bool.{Bool, true, false}
 use mathlib.Core.List.{List}
-use Prim.Native.Nat.{ℕ, ◌+◌, ◌*◌, ◌≤◌, ◌<◌, ◌^◌}
+use Prim.Native.Nat.{ℕ, ◌+◌, ◌*◌}
 use native.Mathlib.Nat.{add-zero}
 use lib.Dec.{eqb}
-use lib.ListN.{length, get_or, take, drop}
-use lib.Seq.{get_or-drop, take_all}
+use lib.ListN.{get_or, take, drop}
+use lib.Seq.{get_or-drop}
 use Rattle.endian.specs.Le.{room, Bytes}
 use Rattle.endian.proofs.Fields.{bytes_drop}
 use Rattle.item.specs.Items.{Fields, Sound, decode}
 use Rattle.item.proofs.Runs.{decode-sound}
 use Rattle.print_field.specs.Puts.{put_line}
 use Rattle.print_field.proofs.Bounds.{put_whole}
-use Rattle.cut_def.specs.Refs.{Ref}
-use Rattle.plan_def.specs.Plans.{Add, Write}
 use Rattle.plan_def.specs.ReadBack.{edit_in, ref_in, add_in, write_in}
-use Rattle.print_line.specs.Lines.{delete_line, edit_line, ref_line, add_line, write_line}
+use Rattle.print_line.specs.Lines.{delete_line, edit_line}
 use Rattle.print_line.proofs.Bounds.{delete_whole}
 
 -- ---- lines of numbers, as the code reads them
