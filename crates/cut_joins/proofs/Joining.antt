@@ -5,7 +5,6 @@ use mathlib.Core.List.{List, [], ◌∷◌, ◌++◌, map, tail, map-append, app
 use Prim.Native.Nat.{ℕ, zero, suc, ◌+◌, ◌-◌, ◌/◌, ◌≤◌, ◌<◌}
 use native.Mathlib.Omega.{arith}
 use native.Mathlib.Numerals.{add-one}
-use native.Mathlib.Nat.{zero-add}
 use lib.ListN.{length, get_or, take, drop, set, length-set, drop_of_length-le}
 use lib.Seq.{drop_at, take-take, get_or-take, length-take-le, drop-drop, append_snoc, take-suc, take-set-le, drop-cons, get_or-set_same}
 use borrow.Author.Tests.{leb-true, leb-false, le-leb, le-ltb, lt-ltb}
@@ -275,10 +274,7 @@ unfolding leading
 leading-some p f fs h = rw h (omega arith)
 
 module _ (sector : ℕ) (list : List ℕ) (s : Segment) (seg : List ℕ) (j : ℕ) (good : Good list s seg) (some : 0 < s.count) (first : (item_at seg 0).key ≤ sector)
-    (hj : j ≡ 0 + leading (starts_by sector) (take s.count (items seg))) where
-  lead_told : j ≡ leading (starts_by sector) (take s.count (items seg))
-  lead_told = hj ∙ zero-add _
-
+    (lead_told : j ≡ leading (starts_by sector) (take s.count (items seg))) where
   -- the item at or before the sector is one of the segment's
   pub last_told : (0 < j) × (j ≤ s.count)
   last_told =

@@ -5,6 +5,7 @@ use Rattle.item.specs.Items.{Fields, fields, items, joined}
 use Rattle.cut_def.specs.Pieces.{Piece, built, kept}
 use Rattle.cut_def.specs.Joins.{joinable, join_next, join_around}
 use Rattle.cut_segment.specs.declared.Segment.{Segment}
+use Rattle.cut_segment.specs.declared.making.Making.{Making}
 use Rattle.cut_segment.specs.Segments.{item_at, segment_of, pieces, Good}
 
 -- an item joined with the one behind it, if they are joinable
@@ -65,3 +66,14 @@ pub record Joining (generation sector : ℕ) (list : List ℕ) (s : Segment) (se
   pub some : 0 < r.count
   pub most : r.count ≤ s.count
   pub first : (item_at seg' 0).key ≤ (item_at seg 0).key
+
+-- ---- of a list of which a segment is made anew
+
+abbrev pub JoinedBehind : (generation k : ℕ) → Making → Making → Type 0
+JoinedBehind generation k m m' = Behind generation m.list.records.now m.segment m.buffer.now k m'.segment m'.buffer.now
+
+abbrev pub JoinedBefore : (generation k : ℕ) → Making → Making → Type 0
+JoinedBefore generation k m m' = Before generation m.list.records.now m.segment m.buffer.now k m'.segment m'.buffer.now
+
+abbrev pub JoinedAround : (generation sector : ℕ) → Making → Making → Type 0
+JoinedAround generation sector m m' = Joining generation sector m.list.records.now m.segment m.buffer.now m'.segment m'.buffer.now

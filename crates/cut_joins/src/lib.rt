@@ -5,10 +5,11 @@ ghost use Rattle.std.specs.Prelude.{◌≡◌, true, ◌++◌, ◌+◌, ◌-◌,
 ghost use Rattle.records.specs.Lent.{old, new};
 ghost use Rattle.records.specs.Stages.{every};
 ghost use Rattle.item.specs.Items.{fields, items};
-ghost use Rattle.cut_segment.specs.Segments.{item_at, bounded, Good, Around};
-ghost use Rattle.cut_joins.specs.Joins.{Joined, Within, Behind, Before, Joining};
+ghost use Rattle.cut_segment.specs.Segments.{item_at, bounded, Around};
+ghost use Rattle.cut_segment.specs.Making.{Stays};
+ghost use Rattle.cut_joins.specs.Joins.{Joined, Within, JoinedBehind, JoinedBefore, JoinedAround};
 
-use cut_segment::{Segment, put_record, record_at, starting_by};
+use cut_segment::{Making, Segment, put_record, record_at};
 use item::{Item, RECORD};
 
 // Record k of n taken away; those behind it move down.
@@ -43,69 +44,82 @@ fn join_within(seg: &mut [u8], k: usize, n: usize, generation: u64) -> usize
     n - 1
 }
 
-// The last item of a segment joined with the list's record behind it.
-fn join_end(list: &[u8], seg: &mut [u8], s: Segment, generation: u64) -> Segment
-    requires { Good list.now s seg.old × (0 < s.count) }
-    ensures { Behind generation list.now s seg.old (s.count - 1) result seg.new }
+// ---- `join_end` and `join_start`, `join_behind` and `join_before` move different bounds of the segment; what they share is
+// `joined` and `join_within`
+
+// The last item that is made joined with the list's record behind it.
+fn join_end(m: &mut Making, generation: u64)
+    requires { 0 < m.old.segment.count }
+    ensures joined { JoinedBehind generation (m.old.segment.count - 1) m.old m.new }
+    ensures stays { Stays m.old m.new }
 {
+    let s = m.segment;
+    let list = m.list.records;
     if s.to == list.len() / RECORD {
-        return s;
+        return;
     }
     let last = s.count - 1;
-    let Some(item) = joined(record_at(seg, last), record_at(list, s.to), generation) else {
-        return s;
+    let Some(item) = joined(m.item(last), record_at(list, s.to), generation) else {
+        return;
     };
-    put_record(seg, last, item);
-    Segment { to: s.to + 1, ..s }
+    put_record(m.buffer, last, item);
+    m.segment = Segment { to: s.to + 1, ..s };
 }
 
-// Record k of a segment joined with what is behind it.
-fn join_behind(list: &[u8], seg: &mut [u8], s: Segment, k: usize, generation: u64) -> Segment
-    requires { Good list.now s seg.old × (k < s.count) }
-    ensures { Behind generation list.now s seg.old k result seg.new }
+// Item k of those that are made joined with what is behind it.
+fn join_behind(m: &mut Making, k: usize, generation: u64)
+    requires { k < m.old.segment.count }
+    ensures joined { JoinedBehind generation k m.old m.new }
+    ensures stays { Stays m.old m.new }
 {
+    let s = m.segment;
     if k + 1 == s.count {
-        return join_end(list, seg, s, generation);
+        return join_end(m, generation);
     }
-    let n = join_within(seg, k, s.count, generation);
-    Segment { count: n, ..s }
+    let n = join_within(m.buffer, k, s.count, generation);
+    m.segment = Segment { count: n, ..s };
 }
 
-// The first item of a segment joined with the list's record before it.
-fn join_start(list: &[u8], seg: &mut [u8], s: Segment, generation: u64) -> Segment
-    requires { Good list.now s seg.old × (0 < s.count) }
-    ensures { Before generation list.now s seg.old 0 result seg.new }
+// The first item that is made joined with the list's record before it.
+fn join_start(m: &mut Making, generation: u64)
+    requires { 0 < m.old.segment.count }
+    ensures joined { JoinedBefore generation 0 m.old m.new }
+    ensures stays { Stays m.old m.new }
 {
+    let s = m.segment;
     if s.from == 0 {
-        return s;
+        return;
     }
     let before = s.from - 1;
-    let Some(item) = joined(record_at(list, before), record_at(seg, 0), generation) else {
-        return s;
+    let Some(item) = joined(record_at(m.list.records, before), m.item(0), generation) else {
+        return;
     };
-    put_record(seg, 0, item);
-    Segment { from: before, ..s }
+    put_record(m.buffer, 0, item);
+    m.segment = Segment { from: before, ..s };
 }
 
-// Record k of a segment joined with what is before it.
-fn join_before(list: &[u8], seg: &mut [u8], s: Segment, k: usize, generation: u64) -> Segment
-    requires { Good list.now s seg.old × (k < s.count) }
-    ensures { Before generation list.now s seg.old k result seg.new }
+// Item k of those that are made joined with what is before it.
+fn join_before(m: &mut Making, k: usize, generation: u64)
+    requires { k < m.old.segment.count }
+    ensures joined { JoinedBefore generation k m.old m.new }
+    ensures stays { Stays m.old m.new }
 {
+    let s = m.segment;
     if k == 0 {
-        return join_start(list, seg, s, generation);
+        return join_start(m, generation);
     }
-    let n = join_within(seg, k - 1, s.count, generation);
-    Segment { count: n, ..s }
+    let n = join_within(m.buffer, k - 1, s.count, generation);
+    m.segment = Segment { count: n, ..s };
 }
 
 // Around a sector written in place: the last item at or before it joined with the one behind it, and then with the one
 // before it.
-pub fn join_around(list: &[u8], seg: &mut [u8], s: Segment, generation: u64, sector: u64) -> Segment
-    requires { Good list.now s seg.old × Around sector list.now s × (0 < s.count) × ((item_at seg.old 0).key ≤ sector) }
-    ensures { Joining generation sector list.now s seg.old result seg.new }
+pub fn join_around(m: &mut Making, generation: u64, sector: u64)
+    requires { Around sector m.old.list.records.now m.old.segment × (0 < m.old.segment.count) × ((item_at m.old.buffer.now 0).key ≤ sector) }
+    ensures joined { JoinedAround generation sector m.old m.new }
+    ensures stays { Stays m.old m.new }
 {
-    let k = starting_by(seg, 0, s.count, sector) - 1;
-    let t = join_behind(list, seg, s, k, generation);
-    join_before(list, seg, t, k, generation)
+    let k = m.started_by(sector) - 1;
+    join_behind(m, k, generation);
+    join_before(m, k, generation);
 }

@@ -1,10 +1,10 @@
 // A list of which a segment is made anew, in the making: items are put into its buffer.
 
-ghost use Rattle.std.specs.Prelude.{◌≡◌, true, ◌+◌, ◌*◌, ◌≤◌, length};
+ghost use Rattle.std.specs.Prelude.{◌≡◌, true, ◌+◌, ◌*◌, ◌<◌, ◌≤◌, length};
 ghost use Rattle.item.specs.Items.{fields};
-ghost use Rattle.cut_segment.specs.Segments.{bounded, Good};
+ghost use Rattle.cut_segment.specs.Segments.{item_at, segment_of, leading, starts_by, bounded, Good};
 
-use crate::{Remade, Running, Segment, insert_item};
+use crate::{Remade, Running, Segment, insert_item, record_at, starting_by};
 use item::Item;
 
 // As `Remade`, but that the buffer can be written.
@@ -18,6 +18,21 @@ pub struct Making<'a> {
 
 impl<'a> Making<'a> {
     ghost use Rattle.cut_segment.specs.Making.{PutIn, Stays};
+
+    // Item n of those that are made.
+    pub fn item(&self, n: usize) -> Item
+        requires { n < self.now.segment.count }
+        ensures { fields result ≡ item_at self.now.buffer.now n }
+    {
+        record_at(self.buffer, n)
+    }
+
+    // How many of them start at most at a key, in front of the first that does not.
+    pub fn started_by(&self, key: u64) -> usize
+        ensures { result ≡ leading (starts_by key) (segment_of self.now.segment self.now.buffer.now) }
+    {
+        starting_by(self.buffer, 0, self.segment.count, key)
+    }
 
     // An item put among those that are made, at its key.
     pub fn insert(&mut self, item: Item)
@@ -42,7 +57,6 @@ impl<'a> Making<'a> {
 }
 
 impl<'a> Running<'a> {
-    ghost use Rattle.std.specs.Prelude.{◌<◌};
     ghost use Rattle.cut_segment.specs.Segments.{Cutting};
     ghost use Rattle.cut_segment.specs.Making.{CutFrom};
 

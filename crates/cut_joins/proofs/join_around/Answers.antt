@@ -3,21 +3,12 @@ use mathlib.Core.Path.{refl}
 use native.Mathlib.Omega.{arith}
 use Rattle.cut_joins.proofs.join_around.Goals as goal
 
-pub starting_by-k-requires : goal.starting_by-k-requires
-starting_by-k-requires c = (omega arith, c.requires.0.room)
-
 pub overflow_sub-k : goal.overflow_sub-k
-overflow_sub-k c = let p = c.requires in
-    omega (arith, (last_told _ _ _ _ _ p.0 p.2 p.3 c.starting_by-k.ensures).0)
+overflow_sub-k c = let m = c.args.m.now in let p = c.requires in omega (arith, (last_told _ m.list.records.now _ _ _ m.good p.1 p.2 c.started_by-k.ensures).0)
 
-pub join_behind-t-requires : goal.join_behind-t-requires
-join_behind-t-requires c = let p = c.requires in
-    let t = last_told _ _ _ _ _ p.0 p.2 p.3 c.starting_by-k.ensures in
-    (p.0, omega arith)
+pub join_behind-requires : goal.join_behind-requires
+join_behind-requires c = let m = c.args.m.now in let p = c.requires in let t = last_told _ m.list.records.now _ _ _ m.good p.1 p.2 c.started_by-k.ensures in omega arith
 
-pub join_before-requires : goal.join_before-requires
-join_before-requires c = (c.join_behind-t.ensures.good, c.join_behind-t.ensures.some)
-
-pub returns : goal.returns
-returns c = let p = c.requires in
-    around-told _ _ _ _ _ p.0 p.2 p.3 c.starting_by-k.ensures p.1 _ refl _ _ _ _ _ c.join_behind-t.ensures c.join_before.ensures
+pub returns-clause-joined : goal.returns-clause-joined
+returns-clause-joined c = let m = c.args.m.now in let p = c.requires in
+    around-told _ _ _ _ _ m.good p.1 p.2 c.started_by-k.ensures p.0 _ refl _ _ _ _ _ c.join_behind.ensures.joined (rw c.join_behind.ensures.stays.list at c.join_before.ensures.joined)

@@ -1,5 +1,6 @@
 use Rattle.cut_joins.proofs.Joining.{end_none, end-yes}
 use Rattle.cut_joins.proofs.Pairs.{bounded_of}
+use Rattle.cut_joins.specs.Joins.{Behind}
 use Rattle.item.proofs.Laws.{items-length}
 use Rattle.item.specs.Items.{Fields, items}
 use lib.ListN.{length, set}
@@ -8,23 +9,31 @@ use mathlib.Core.Path.{◌≡◌, ◌∙◌, ap}
 use native.Mathlib.Omega.{arith}
 use Rattle.cut_joins.proofs.join_end.Goals as goal
 
-pub returns-then-s-list : goal.returns-then-s-list
-returns-then-s-list c = end_none _ _ _ _ _ c.requires.0 (omega arith) c.if-s-list.true
+pub returns-then-s-list-clause-joined : goal.returns-then-s-list-clause-joined
+returns-then-s-list-clause-joined c = let m = c.args.m.now in end_none _ _ _ _ _ m.good (omega (arith, c.requires)) c.if-s-list.true
 
-pub record_at-requires-2 : goal.record_at-requires-2
-record_at-requires-2 c = let g = c.requires.0 in omega (arith, g.inside, items-length c.args.list.now)
+pub record_at-requires : goal.record_at-requires
+record_at-requires c = let m = c.args.m.now in omega (arith, m.good.inside, items-length m.list.records.now)
 
 pub joined-requires : goal.joined-requires
-joined-requires c = let g = c.requires.0 in bounded_of (items c.args.list.now) _ _ g.sound (omega (arith, g.inside, items-length c.args.list.now)) c.record_at-2.ensures
+joined-requires c = let m = c.args.m.now in bounded_of (items m.list.records.now) _ _ m.good.sound (omega (arith, m.good.inside, items-length m.list.records.now)) c.record_at.ensures
 
-pub returns : goal.returns
-returns c = let a = c.args in
-    let g = c.requires.0 in
-    let n = c.requires.1 in
+pub overflow_add-m : goal.overflow_add-m
+overflow_add-m c = let m = c.args.m.now in omega (arith, m.good.inside, items-length m.list.records.now, c.if-s-list.false, c.ranges, c.well_formed)
+
+pub invariant_of-m : goal.invariant_of-m
+invariant_of-m c =
+    let m = c.args.m.now in
     let j = c.joined.ensures.there _ c.in-Some.is in
-    let h : a.s.count - 1 + 1 ≡ a.s.count = omega (arith, n) in
-    let lt : a.s.to < length (items a.list.now) = omega (arith, g.inside, items-length a.list.now, c.if-s-list.false) in
-    end-yes _ _ _ _ _ g h _ _ c.record_at.ensures c.record_at-2.ensures lt _ j.0 (c.put_record.ensures ∙ ap (λ (f : Fields). set (items a.seg.now) (a.s.count - 1) f) j.1)
+    let h : m.segment.count - 1 + 1 ≡ m.segment.count = omega (arith, c.requires) in
+    let lt : m.segment.to < length (items m.list.records.now) = omega (arith, m.good.inside, items-length m.list.records.now, c.if-s-list.false) in
+    let b = end-yes c.args.generation _ _ _ _ m.good h _ _ c.item.ensures c.record_at.ensures lt c.put_record.new.seg j.0 (c.put_record.ensures ∙ ap (λ (f : Fields). set (items m.buffer.now) (m.segment.count - 1) f) j.1) in
+    record { good = b.good }
 
-pub overflow_add-result : goal.overflow_add-result
-overflow_add-result c = let g = c.requires.0 in omega (arith, g.inside, items-length c.args.list.now, c.if-s-list.false, c.ranges, c.well_formed)
+pub returns-clause-joined : goal.returns-clause-joined
+returns-clause-joined c =
+    let m = c.args.m.now in
+    let j = c.joined.ensures.there _ c.in-Some.is in
+    let h : m.segment.count - 1 + 1 ≡ m.segment.count = omega (arith, c.requires) in
+    let lt : m.segment.to < length (items m.list.records.now) = omega (arith, m.good.inside, items-length m.list.records.now, c.if-s-list.false) in
+    end-yes _ _ _ _ _ m.good h _ _ c.item.ensures c.record_at.ensures lt _ j.0 (c.put_record.ensures ∙ ap (λ (f : Fields). set (items m.buffer.now) (m.segment.count - 1) f) j.1)
