@@ -1,2 +1,3 @@
 pub mod Merge
+pub mod Steps
 pub mod Checks

@@ -6,3 +6,4 @@ pub mod Counts
 pub mod Wholes
 pub mod Chunks
 pub mod Refusals
+pub mod Neighbours

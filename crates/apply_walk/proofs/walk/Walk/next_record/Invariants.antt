@@ -1,0 +1,9 @@
+use Rattle.std.proofs.Common.{◌/◌, length, ◌-◌}
+use Rattle.apply_walk.proofs.Steps.{Passing}
+use Rattle.apply_walk.proofs.walk.Walk.next_record.Given as goal
+
+abbrev pub invariant-loop-self : goal.invariant-loop-self
+invariant-loop-self l = Passing l.initial.self l.self
+
+abbrev pub decreases-loop-self : goal.decreases-loop-self
+decreases-loop-self l = length l.edits / 71 - l.self.j
