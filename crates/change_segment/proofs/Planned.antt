@@ -20,14 +20,12 @@ use Rattle.records.proofs.Lists.{stage-none, every_parts}
 use Rattle.item.specs.Items.{Fields, fields, items, end}
 use Rattle.table.specs.declared.Row.{Row}
 use Rattle.table.proofs.Laws.{window_says}
-use Rattle.lists.proofs.Laws.{well_kept_lem}
 use Rattle.cut_def.specs.Mappings.{named}
 use Rattle.cut_def.specs.Cuts.{split}
 use Rattle.cut_def.specs.Pieces.{Piece, built, kept, items_of}
 use Rattle.cut_def.specs.Raw.{replaced}
 use Rattle.cut_def.specs.Refs.{Ref, ref_of}
 use Rattle.cut_segment.specs.declared.Segment.{Segment}
-use Rattle.cut_segment.proofs.Segments.{kept-runs}
 use Rattle.ref_def.specs.Compared.{among, minus, refs_among, compared_shares, compared_unrefs}
 use Rattle.ref_def.specs.Drops.{InLeaf, in_leaves, releases, unrefs}
 use Rattle.ref_def.proofs.Compared.{compared_most}
@@ -51,11 +49,10 @@ use Rattle.change_def.specs.Raw.{change_of}
 use Rattle.change_def.proofs.Fair.{Fair, rewrite_inside}
 use Rattle.change_def.proofs.Rewrites.{holder_says, preallocated_says, rewrite_sound}
 use Rattle.change_def.proofs.Rounding.{sector-limit}
-use Rattle.change_rewrites.specs.declared.InPlace.{InPlace}
+use Rattle.change_rewrites.specs.declared.in_place.InPlace.{InPlace}
 use Rattle.change_rewrites.specs.Raw.{holder_leaf, in_place_of, said_in_place, extent_of, Writable}
-use Rattle.change_rewrites.proofs.Refusing.{holder-sound}
 use Rattle.change_segment.specs.declared.Parts.{Parts}
-use Rattle.change_segment.specs.Raw.{Parting, Within, Inside, Ready}
+use Rattle.change_segment.specs.Raw.{Parting, Within, Ready}
 use Rattle.change_segment.specs.Sides.{places_at, joined_pieces, after_pieces, cut_of, middle, compared_of, shares_of, unrefs_of}
 use Rattle.change_segment.proofs.Sides.{by_held, each_sides, news-sides}
 
@@ -232,7 +229,7 @@ module _ (v : Volume) (f : File) (c : RangeChange) (p : Parts) (fs : List Fields
 -- ---- one sector of a fair change
 
 module _ (v : Volume) (f : File) (c : RangeChange) (fs : List Fields) (shared : List ℕ) (rs : List Row) (fair : Fair (ground_of v f fs shared rs) (change_of c f.size)) where
-  within-one : (r : Rewrite) → rewrite_inside (ground_of v f fs shared rs) (change_of c f.size) r ≡ true → Within v c r
+  within-one : (r : Rewrite) → rewrite_inside (ground_of v f fs shared rs) (change_of c f.size) r ≡ true → Within v.sector c r
   within-one r e =
       let low : Bool = leb c.lo r.sector in
       let high : Bool = leb (r.sector + v.sector) c.hi in
@@ -245,14 +242,9 @@ module _ (v : Volume) (f : File) (c : RangeChange) (fs : List Fields) (shared : 
       }
 
   module _ (r : Option Rewrite) (o : Option InPlace) (e : said_in_place o ≡ in_place_of (in_leaves fs shared) r) where
-    -- in its holder, and in what is cut
-    inside_one : ForSome r (λ (x : Rewrite). rewrite_inside (ground_of v f fs shared rs) (change_of c f.size) x ≡ true) → ForSome o (Inside v c)
-    inside_one z w t =
-        let g : Ground = ground_of v f fs shared rs in
-        record {
-          held = holder-sound g w.rewrite.sector (holder_leaf w.holder) fair.sound (sym (found_holder g r o e w t));
-          within = within-one w.rewrite (z w.rewrite (found_held g r o e w t).0);
-        }
+    -- in what is cut
+    inside_one : ForSome r (λ (x : Rewrite). rewrite_inside (ground_of v f fs shared rs) (change_of c f.size) x ≡ true) → ForSome o (λ (w : InPlace). Within v.sector c w.rewrite)
+    inside_one z w t = within-one w.rewrite (z w.rewrite (found_held (ground_of v f fs shared rs) r o e w t).0)
 
     -- in its extent, which ends below 2^64
     writable_one : ForSome r (λ (x : Rewrite). eqb (rewrite_refusal (ground_of v f fs shared rs) x) 0 ≡ true) → Writable o
@@ -260,27 +252,27 @@ module _ (v : Volume) (f : File) (c : RangeChange) (fs : List Fields) (shared : 
         let g : Ground = ground_of v f fs shared rs in
         let d = found_held g r o e w t in
         let i : InLeaf = holder_leaf w.holder in
-        let q = holder-sound g w.rewrite.sector i fair.sound (sym (found_holder g r o e w t)) in
         let k = rewrite_sound g w.rewrite i (eqb-true (rewrite_refusal g w.rewrite) 0 (z w.rewrite d.0)) d.1 in
         let n = window_says (i.item.extent_start + position_of w.rewrite i) v.sector i.item.extent_start k.row.length k.inside in
-        (q, omega (arith, n.0))
+        omega (arith, n.0)
 
 -- ---- both
 
 module _ (v : Volume) (f : File) (c : RangeChange) (p : Parts) (list shared : List ℕ) (rs : List Row) (part : Parting (in_leaves (items list) shared) c p) (fair : Fair (ground_of v f (items list) shared rs) (change_of c f.size)) where
   -- what the steps of the segment ask for
-  pub ready : length shared ≡ length (items list) → v.generation + 1 < 2 ^ 64 → Ready v c p list
-  ready l n =
+  pub ready : v.generation + 1 < 2 ^ 64 → Ready v c p
+  ready n =
       let fs : List Fields = items list in
       let w = sides-every (rewrite_inside (ground_of v f fs shared rs) (change_of c f.size)) c.front c.back fair.rewrites in
-      let e = leaves-items fs shared l in
       record {
-        runs = kept-runs f.number fs (well_kept_lem f.number fs (rw e at fair.sound.kept)) (rw e at fair.sound.ranges);
         generation = n;
-        front = inside_one v f c fs shared rs fair c.front p.front part.front w.0;
-        back = inside_one v f c fs shared rs fair c.back p.back part.back w.1;
-        «new-front» = λ r t. within-one v f c fs shared rs fair r (w.0 r t);
-        «new-back» = λ r t. within-one v f c fs shared rs fair r (w.1 r t);
+        inside =
+            record {
+              front = inside_one v f c fs shared rs fair c.front p.front part.front w.0;
+              back = inside_one v f c fs shared rs fair c.back p.back part.back w.1;
+              «new-front» = λ r t. within-one v f c fs shared rs fair r (w.0 r t);
+              «new-back» = λ r t. within-one v f c fs shared rs fair r (w.1 r t);
+            };
       }
 
   -- what the writes ask for

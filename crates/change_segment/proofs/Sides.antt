@@ -17,7 +17,7 @@ use Rattle.change_def.specs.declared.RangeChange.{RangeChange}
 use Rattle.change_def.specs.Rewrites.{Ground, when_held, preallocated, in_place, each_in_place, rewritten_anew}
 use Rattle.change_def.specs.Changes.{Change, new_items, writes_anew, wanted}
 use Rattle.change_def.specs.Raw.{change_of}
-use Rattle.change_rewrites.specs.declared.InPlace.{InPlace}
+use Rattle.change_rewrites.specs.declared.in_place.InPlace.{InPlace}
 use Rattle.change_rewrites.specs.Raw.{holder_leaf, in_place_of, said_in_place}
 use Rattle.change_segment.specs.declared.Parts.{Parts}
 use Rattle.change_segment.specs.Raw.{Parting}

@@ -20,7 +20,7 @@ use Rattle.plan_def.specs.Places.{Wanted}
 use Rattle.change_def.specs.declared.Rewrite.{Rewrite}
 use Rattle.change_def.specs.declared.RangeChange.{RangeChange}
 use Rattle.change_def.specs.Rewrites.{Ground, new_generation}
-use Rattle.change_rewrites.specs.declared.InPlace.{InPlace}
+use Rattle.change_rewrites.specs.declared.in_place.InPlace.{InPlace}
 use Rattle.change_rewrites.specs.Raw.{item_of, extent_of, write_of}
 use Rattle.change_segment.specs.declared.Parts.{Parts}
 use Rattle.change_segment.specs.Raw.{new_item}
@@ -70,9 +70,12 @@ abbrev pub sector_of : InPlace → ℕ
 sector_of w = w.rewrite.sector
 
 -- the pieces after the cut, the writes in place and the joins, by the two sides
+abbrev pub written_pieces : (generation sector : ℕ) → RangeChange → Parts → List Fields → List Piece
+written_pieces generation sector c p fs =
+    join_all generation (sides p.front p.back sector_of sector_of) (insert_all (sides p.front p.back (item_of generation sector) (item_of generation sector)) (cut_pieces c.lo c.hi fs))
+
 abbrev pub joined_pieces : Volume → RangeChange → Parts → List Fields → List Piece
-joined_pieces v c p fs =
-    join_all (v.generation + 1) (sides p.front p.back sector_of sector_of) (insert_all (sides p.front p.back (item_of v) (item_of v)) (cut_pieces c.lo c.hi fs))
+joined_pieces v c p fs = written_pieces (v.generation + 1) v.sector c p fs
 
 -- and with the new items, at their places
 abbrev pub after_pieces : Volume → File → RangeChange → Parts → ℕ → ℕ → List Fields → List Piece

@@ -1,21 +1,22 @@
 // `change_range` in code: what a change makes of a list, as a segment of a few items, with and without new ones.
 #![tactic(auto)]
 
-ghost use Rattle.std.specs.Prelude.{◌≡◌, ◌+◌, ◌*◌, ◌<◌, ◌≤◌, ◌^◌, length};
+ghost use Rattle.std.specs.Prelude.{◌≡◌, true, ◌+◌, ◌*◌, ◌<◌, ◌≤◌, length};
 ghost use Rattle.std.specs.Option.{ForSome};
 ghost use Rattle.records.specs.Lent.{old, new};
 ghost use Rattle.item.specs.Items.{items};
-ghost use Rattle.cut_segment.specs.Segments.{item_at, Runs, Good, Around};
-ghost use Rattle.ref_def.specs.Drops.{in_leaves};
-ghost use Rattle.change_rewrites.specs.Raw.{Held, item_of};
-ghost use Rattle.change_segment.specs.Raw.{Parting, PutIf, JoinedIf, Made, Ready, new_item};
-ghost use Rattle.change_segment.specs.Sides.{anew, front_new, back_new, joined_pieces, after_pieces};
+ghost use Rattle.cut_segment.specs.Segments.{item_at, bounded, Around};
+ghost use Rattle.cut_segment.specs.Making.{Stays};
+ghost use Rattle.change_ground.specs.Lent.{items_in, running_leaves};
+ghost use Rattle.change_rewrites.specs.Raw.{item_of};
+ghost use Rattle.change_segment.specs.Raw.{Parting, PutIf, JoinedIf, Inside, Ready, MadeIn, MadeOf, new_of};
+ghost use Rattle.change_segment.specs.Sides.{anew, front_new, back_new, written_pieces, joined_pieces, after_pieces};
 
 use change_def::{RangeChange, Rewrite};
+use change_ground::Ground;
 use change_rewrites::InPlace;
-use cut_segment::Segment;
+use cut_segment::{Making, Remade, Running, RunningLeaves};
 use item::Item;
-use request::{File, Volume};
 
 // Those of a change's two sectors that preallocated items hold: they are written in place.
 #[derive(Clone, Copy)]
@@ -24,67 +25,94 @@ pub struct Parts {
     pub back: Option<InPlace>,
 }
 
-pub fn parts_of(c: RangeChange, list: &[u8], shared: &[u8]) -> Parts
-    requires { (length shared.now ≡ length (items list.now)) × Runs 0 (items list.now) }
-    ensures { Parting (in_leaves (items list.now) shared.now) c result }
+// The places of the new extents of its two sectors. That of a sector that takes none means nothing.
+#[derive(Clone, Copy)]
+pub struct Places {
+    pub front: u64,
+    pub back: u64,
+}
+
+// What all items that a change makes anew have: their file, the generation to come, and the length of a sector.
+#[derive(Clone, Copy)]
+struct Stamp {
+    file: u64,
+    generation: u64,
+    sector: u64,
+}
+
+pub fn parts_of(c: RangeChange, leaves: RunningLeaves) -> Parts
+    ensures { Parting (running_leaves leaves.entry) c result }
 {
     Parts {
-        front: change_rewrites::preallocated(c.front, list, shared),
-        back: change_rewrites::preallocated(c.back, list, shared),
+        front: change_rewrites::preallocated(c.front, leaves),
+        back: change_rewrites::preallocated(c.back, leaves),
     }
 }
 
-// The item over a sector that is written in place, put into the segment, if there is one.
-fn insert_in_place(v: Volume, w: Option<InPlace>, seg: &mut [u8], s: Segment) -> Segment
-    requires { ForSome w Held × (v.generation + 1 < 2 ^ 64) × ((s.count + 1) * 70 ≤ length seg.old) }
-    ensures { PutIf w (item_of v) s seg.old result seg.new }
+// The item over a sector that is written in place, put in, if there is one.
+fn insert_in_place(m: &mut Making, w: Option<InPlace>, t: Stamp)
+    requires { ForSome w (λ w. bounded (item_of t.generation t.sector w) ≡ true) × ((m.old.segment.count + 1) * 70 ≤ length m.old.buffer.now) }
+    ensures put { PutIf w (item_of t.generation t.sector) m.old m.new }
+    ensures stays { Stays m.old m.new }
 {
-    let Some(w) = w else {
-        return s;
-    };
-    cut_segment::insert_item(seg, s, change_rewrites::item_in_place(v, w))
+    if let Some(w) = w {
+        m.insert(w.item(t.generation, t.sector));
+    }
 }
 
 // The joins around a sector that is written in place, if there is one.
-fn join_part(v: Volume, w: Option<InPlace>, list: &[u8], seg: &mut [u8], s: Segment) -> Segment
-    requires { (v.generation + 1 < 2 ^ 64) × ForSome w (λ w. Good list.now s seg.old × Around w.rewrite.sector list.now s × (0 < s.count) × ((item_at seg.old 0).key ≤ w.rewrite.sector)) }
-    ensures { JoinedIf w (v.generation + 1) list.now s seg.old result seg.new }
+fn join_part(m: &mut Making, w: Option<InPlace>, generation: u64)
+    requires { ForSome w (λ w. Around w.rewrite.sector m.old.list.records.now m.old.segment × (0 < m.old.segment.count) × ((item_at m.old.buffer.now 0).key ≤ w.rewrite.sector)) }
+    ensures joined { JoinedIf w generation m.old m.new }
+    ensures stays { Stays m.old m.new }
 {
-    let Some(w) = w else {
-        return s;
-    };
-    cut_joins::join_around(list, seg, s, v.generation + 1, w.rewrite.sector)
+    if let Some(w) = w {
+        cut_joins::join_around(m, generation, w.rewrite.sector);
+    }
 }
 
-// What the change makes of the list, with no place taken: the cut, the sectors written in place, the joins around them.
-pub fn joined_segment(v: Volume, c: RangeChange, p: Parts, list: &[u8], seg: &mut [u8]) -> Segment
-    requires { Ready v c p list.now × (280 ≤ length seg.old) }
-    ensures { Made (joined_pieces v c p (items list.now)) c.lo c.hi 4 list.now result seg.new }
+// The cut, the sectors written in place, and the joins around them.
+fn written<'a>(
+    list: Running<'a>,
+    c: RangeChange,
+    p: Parts,
+    t: Stamp,
+    seg: &'a mut [u8],
+) -> Making<'a>
+    requires { Inside t.sector c p × (280 ≤ length seg.old) }
+    ensures { MadeIn (written_pieces t.generation t.sector c p (items list.entry.records.now)) c.lo c.hi 4 list.entry (length seg.old) result }
 {
-    let cut = cut_segment::cut_segment(list, c.lo, c.hi, seg);
-    let one = insert_in_place(v, p.front, seg, cut);
-    let two = insert_in_place(v, p.back, seg, one);
-    let three = join_part(v, p.front, list, seg, two);
-    join_part(v, p.back, list, seg, three)
+    let mut m = list.cut(c.lo, c.hi, seg);
+    insert_in_place(&mut m, p.front, t);
+    insert_in_place(&mut m, p.back, t);
+    join_part(&mut m, p.front, t.generation);
+    join_part(&mut m, p.back, t.generation);
+    m
 }
 
-// The item over a sector that takes a new extent, put into the segment, if there is one.
-fn insert_new(
-    v: Volume,
-    f: File,
-    r: Option<Rewrite>,
-    place: u64,
-    seg: &mut [u8],
-    s: Segment,
-) -> Segment
-    requires { (v.generation + 1 < 2 ^ 64) × ((s.count + 1) * 70 ≤ length seg.old) }
-    ensures { PutIf r (λ r. new_item v f r place) s seg.old result seg.new }
+// What the change makes of the list, with no place taken.
+pub fn joined_segment<'a>(g: Ground<'a>, c: RangeChange, p: Parts, seg: &'a mut [u8]) -> Remade<'a>
+    requires { Ready g.volume c p × (280 ≤ length seg.old) }
+    ensures { MadeOf (joined_pieces g.entry.volume c p (items_in g.entry)) c.lo c.hi 4 g.entry.leaves.list result }
 {
-    let Some(r) = r else {
-        return s;
+    let t = Stamp {
+        file: g.file.number,
+        generation: g.volume.generation + 1,
+        sector: g.volume.sector,
     };
-    let item = Item::regular_extent_item(f.number, r.sector, v.generation + 1, place, v.sector);
-    cut_segment::insert_item(seg, s, item)
+    written(g.leaves.list, c, p, t, seg).read()
+}
+
+// The item over a sector that takes a new extent, put in, if there is one.
+fn insert_new(m: &mut Making, r: Option<Rewrite>, place: u64, t: Stamp)
+    requires { ForSome r (λ r. bounded (new_of t r place) ≡ true) × ((m.old.segment.count + 1) * 70 ≤ length m.old.buffer.now) }
+    ensures put { PutIf r (λ r. new_of t r place) m.old m.new }
+    ensures stays { Stays m.old m.new }
+{
+    if let Some(r) = r {
+        let item = Item::regular_extent_item(t.file, r.sector, t.generation, place, t.sector);
+        m.insert(item);
+    }
 }
 
 // A sector that is rewritten, if it is not written in place: it takes a new extent.
@@ -107,21 +135,24 @@ pub fn back_new(c: RangeChange, p: Parts) -> Option<Rewrite>
     anew(c.back, p.back)
 }
 
-// What the change makes of the list: x is the front sector's place, y the back one's.
-pub fn changed_segment(
-    v: Volume,
-    f: File,
+// What the change makes of the list.
+pub fn changed_segment<'a>(
+    g: Ground<'a>,
     c: RangeChange,
     p: Parts,
-    x: u64,
-    y: u64,
-    list: &[u8],
-    seg: &mut [u8],
-) -> Segment
-    requires { Ready v c p list.now × (420 ≤ length seg.old) }
-    ensures { Made (after_pieces v f c p x y (items list.now)) c.lo c.hi 6 list.now result seg.new }
+    at: Places,
+    seg: &'a mut [u8],
+) -> Remade<'a>
+    requires { Ready g.volume c p × (420 ≤ length seg.old) }
+    ensures { MadeOf (after_pieces g.entry.volume g.entry.file c p at.front at.back (items_in g.entry)) c.lo c.hi 6 g.entry.leaves.list result }
 {
-    let s = joined_segment(v, c, p, list, seg);
-    let t = insert_new(v, f, front_new(c, p), x, seg, s);
-    insert_new(v, f, back_new(c, p), y, seg, t)
+    let t = Stamp {
+        file: g.file.number,
+        generation: g.volume.generation + 1,
+        sector: g.volume.sector,
+    };
+    let mut m = written(g.leaves.list, c, p, t, seg);
+    insert_new(&mut m, front_new(c, p), at.front, t);
+    insert_new(&mut m, back_new(c, p), at.back, t);
+    m.read()
 }
