@@ -3,10 +3,12 @@
 #![tactic(auto)]
 
 ghost use Rattle.std.specs.Prelude.{◌≡◌, ◌≤◌, IfOk, length};
-ghost use Rattle.plan_def.specs.Outputs.{outs};
+ghost use Rattle.plan_def.specs.Outputs.{outs_in};
 ghost use Rattle.extplan_reply.specs.Replies.{Replied};
 
-use request::Answer;
+use plan_def::Outputs;
+use records::refusal::Refusal;
+use request::Numbers;
 use std::io;
 use std::io::Read;
 
@@ -25,77 +27,30 @@ fn read_full(from: &mut impl Read, buffer: &mut [u8]) -> io::Result<usize>
     Ok(done)
 }
 
-// Writes the first k bytes of a buffer.
-fn write_part(rt: &impl Print, line: &[u8], k: usize) -> io::Result<()>
-    requires { k ≤ length line.now }
-{
-    rt.write_all(&line[..k])
-}
-
-// Writes line n of the answer, whole; false if there is none.
-fn write_line(
-    rt: &impl Print,
-    input: &[u8],
-    reply: Result<Answer, usize>,
-    edits: &[u8],
-    shares: &[u64],
-    unrefs: &[u64],
-    releases: &[u64],
-    adds: &[u64],
-    writes: &[u64],
-    n: usize,
-    line: &mut [u8],
-) -> io::Result<bool>
-    requires replied { Replied input.now reply (outs edits.now shares.now unrefs.now releases.now adds.now writes.now) }
-    requires in_bounds { 256 ≤ length line.old }
-{
-    let k = extplan_reply::reply_line(
-        input, reply, edits, shares, unrefs, releases, adds, writes, n, line,
-    );
-    if k == 0 {
-        return Ok(false);
-    }
-    write_part(rt, line, k)?;
-    Ok(true)
-}
-
 // Writes the answer line by line. No answer has a million lines.
 fn write_lines(
     rt: &impl Print,
     input: &[u8],
-    reply: Result<Answer, usize>,
-    edits: &[u8],
-    shares: &[u64],
-    unrefs: &[u64],
-    releases: &[u64],
-    adds: &[u64],
-    writes: &[u64],
-    line: &mut [u8],
+    reply: Result<Result<Option<Numbers>, Refusal>, usize>,
+    out: &Outputs,
 ) -> io::Result<()>
-    requires replied { Replied input.now reply (outs edits.now shares.now unrefs.now releases.now adds.now writes.now) }
-    requires in_bounds { 256 ≤ length line.old }
+    requires { Replied input.now reply (outs_in out.now) }
 {
     for n in 0..1000000 {
-        if !write_line(
-            rt, input, reply, edits, shares, unrefs, releases, adds, writes, n, line,
-        )? {
+        let line = extplan_reply::reply_line(input, reply, out, n);
+        if line.bytes().is_empty() {
             return Ok(());
         }
+        rt.write_all(line.bytes())?;
     }
     Ok(())
 }
 
-// The two largest buffers, by functions: only their lengths are asked about.
-fn item_buffer() -> [u8; 655340]
-    ensures { 655340 ≡ length result }
+// A large buffer, by a function: only its length is asked about.
+fn buffer<const N: usize>() -> [u8; N]
+    ensures { N ≡ length result }
 {
-    [0; 655340]
-}
-
-fn edit_buffer() -> [u8; 2658808]
-    ensures { 2658808 ≡ length result }
-{
-    [0; 2658808]
+    [0; N]
 }
 
 // The answer to an input, with the buffers that it takes: 9,362 items, 7,281 extents, 6,553 places, and for outputs what
@@ -103,41 +58,33 @@ fn edit_buffer() -> [u8; 2658808]
 fn answer(rt: &impl Print, input: &[u8]) -> io::Result<()>
     requires { length input.now ≤ 65536 }
 {
-    let mut items = item_buffer();
+    let mut items = buffer::<655340>();
     let mut shared = [0u8; 9362];
     let mut table = [0u64; 36405];
     let mut places = [0u64; 6553];
-    let mut edits = edit_buffer();
+    let mut edits = buffer::<2658808>();
     let mut shares = [0u64; 56176];
     let mut unrefs = [0u64; 37448];
     let mut releases = [0u64; 18724];
     let mut adds = [0u64; 19659];
     let mut writes = [0u64; 8];
-    let mut line = [0u8; 256];
+    let mut out = Outputs {
+        edits: &mut edits,
+        shares: &mut shares,
+        unrefs: &mut unrefs,
+        releases: &mut releases,
+        adds: &mut adds,
+        writes: &mut writes,
+    };
     let reply = extplan_reply::answer(
         input,
         &mut items,
         &mut shared,
         &mut table,
         &mut places,
-        &mut edits,
-        &mut shares,
-        &mut unrefs,
-        &mut releases,
-        &mut adds,
-        &mut writes,
+        &mut out,
     );
-    write_lines(
-        rt, input, reply, &edits, &shares, &unrefs, &releases, &adds, &writes, &mut line,
-    )
-}
-
-// "more bytes `(line 0)`"
-fn refuse_length(rt: &impl Print) -> io::Result<()> {
-    let mut room = [0u8; 256];
-    let line: &mut [u8] = &mut room;
-    let k = print_answer::put_fault(0, line);
-    write_part(rt, line, k)
+    write_lines(rt, input, reply, &out)
 }
 
 fn main(rt: HostRuntime) -> io::Result<()> {
@@ -150,7 +97,8 @@ fn main(rt: HostRuntime) -> io::Result<()> {
         return answer(&rt, &input[..n]);
     }
     if n == 65536 {
-        return refuse_length(&rt);
+        // "more bytes `(line 0)`"
+        return rt.write_all(print_answer::fault_line(0).bytes());
     }
     Err(io::Error::other("read"))
 }

@@ -3,4 +3,3 @@ pub mod Operation
 pub mod Counts
 pub mod Never
 pub mod Replying
-pub mod Lines

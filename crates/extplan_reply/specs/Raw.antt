@@ -1,6 +1,6 @@
 -- For the code only: buffers that hold all that an input can say.
 use Rattle.std.specs.Prelude.{List, ℕ, ◌*◌, ◌≤◌, length}
-use Rattle.plan_def.specs.Outputs.{outs, rooms_of}
+use Rattle.plan_def.specs.Outputs.{Outs, rooms_of}
 use Rattle.plan_bounds.specs.Ample.{most_records, most_places, Ample}
 
 -- "(extent)" and its line's end are 9 bytes
@@ -14,5 +14,5 @@ pub record Roomy (is ss ts ps : List ℕ) : Type 0 where
   pub places : most_places ≤ length ps
 
 -- outputs that suffice for every plan (a record, so that a caller's arrays are not counted through to see it)
-pub record Spacious (e s u r a w : List ℕ) : Type 0 where
-  pub ample : Ample (rooms_of (outs e s u r a w))
+pub record Spacious (o : Outs) : Type 0 where
+  pub ample : Ample (rooms_of o)

@@ -2,14 +2,15 @@
 #![tactic(auto)]
 
 ghost use Rattle.std.specs.Prelude.{◌≡◌, ◌≤◌, length};
-ghost use Rattle.records.specs.Lent.{old, new};
-ghost use Rattle.print_field.specs.Text.{Added};
-ghost use Rattle.plan_def.specs.Outputs.{outs};
+ghost use Rattle.plan_def.specs.Outputs.{outs_in};
 ghost use Rattle.print_answer.specs.Printed.{line_at};
 ghost use Rattle.extplan_reply.specs.Replies.{answer_to, Replied};
 ghost use Rattle.extplan_reply.specs.Raw.{Roomy, Spacious};
 
-use request::Answer;
+use plan_def::Outputs;
+use print_field::Line;
+use records::refusal::Refusal;
+use request::Numbers;
 
 // The reply to an input, with a plan's lines in the outputs: the operation's answer, or the number of the line that is at
 // fault.
@@ -19,48 +20,30 @@ pub fn answer(
     shared: &mut [u8],
     table: &mut [u64],
     places: &mut [u64],
-    edits: &mut [u8],
-    shares: &mut [u64],
-    unrefs: &mut [u64],
-    releases: &mut [u64],
-    adds: &mut [u64],
-    writes: &mut [u64],
-) -> Result<Answer, usize>
+    out: &mut Outputs,
+) -> Result<Result<Option<Numbers>, Refusal>, usize>
     requires input_len_bound { length input.now ≤ 65536 }
     requires roomy { Roomy items.old shared.old table.old places.old }
-    requires spacious { Spacious edits.old shares.old unrefs.old releases.old adds.old writes.old }
-    ensures { Replied input.now result (outs edits.new shares.new unrefs.new releases.new adds.new writes.new) }
+    requires spacious { Spacious (outs_in out.old) }
+    ensures { Replied input.now result (outs_in out.new) }
 {
     let read = read_input::read_input(input, items, shared, table, places)?;
     let request = read_order::asked(read)?;
-    Ok(extplan_operate::operate(
-        read, request, items, shared, table, places, edits, shares, unrefs, releases, adds, writes,
-    ))
+    Ok(extplan_operate::operate(read, request, items, shared, table, places, out))
 }
 
-// Line n, from 0, of the answer to an input whose reply is in the outputs, put at the start of `line`; its length, or 0 where
-// there is no such line.
+// Line n, from 0, of the answer to an input whose reply is in the outputs; an empty one where there are not so many.
 pub fn reply_line(
     input: &[u8],
-    reply: Result<Answer, usize>,
-    edits: &[u8],
-    shares: &[u64],
-    unrefs: &[u64],
-    releases: &[u64],
-    adds: &[u64],
-    writes: &[u64],
+    reply: Result<Result<Option<Numbers>, Refusal>, usize>,
+    out: &Outputs,
     n: usize,
-    line: &mut [u8],
-) -> usize
-    requires replied { Replied input.now reply (outs edits.now shares.now unrefs.now releases.now adds.now writes.now) }
-    requires in_bounds { 256 ≤ length line.old }
-    ensures { Added (line_at n (answer_to input.now)) 0 line.old result line.new }
+) -> Line
+    requires { Replied input.now reply (outs_in out.now) }
+    ensures { result ≡ line_at n (answer_to input.now) }
 {
     match reply {
-        Ok(answer) => print_answer::answer_line(
-            answer, edits, shares, unrefs, releases, adds, writes, n, line,
-        ),
-        Err(fault) if n == 0 => print_answer::put_fault(fault as u64, line),
-        Err(_) => 0,
+        Ok(answer) => print_answer::answer_line(answer, out, n),
+        Err(fault) => print_answer::only_line(print_answer::fault_line(fault as u64), n),
     }
 }

@@ -12,4 +12,4 @@ pub operate-requires : goal.operate-requires
 operate-requires c = asked_lying _ c.requires.input_len_bound _ c.in_ok-read.read _ c.requires.roomy c.in_ok-read.ensures _ c.in_ok-request.ensures.0
 
 pub returns : goal.returns
-returns c = asked_replied _ c.requires.input_len_bound _ c.in_ok-read.read _ c.requires.roomy c.in_ok-read.ensures _ c.in_ok-request.ensures.0 _ _ _ c.in_ok-request.ensures.1 c.requires.spacious.ample c.operate.ensures
+returns c = asked_replied _ c.requires.input_len_bound _ c.in_ok-read.read _ c.requires.roomy c.in_ok-read.ensures _ c.in_ok-request.ensures.0 _ _ _ c.in_ok-request.ensures.1 c.requires.spacious.ample c.operate.ensures.met

@@ -1,5 +1,0 @@
-use Rattle.extplan.proofs.Within.{within}
-use Rattle.extplan.proofs.write_line.Goals as goal
-
-pub write_part-requires : goal.write_part-requires
-write_part-requires g c = within _ _ _ _ c.reply_line-k.ensures
