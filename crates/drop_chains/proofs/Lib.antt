@@ -1,2 +1,3 @@
 pub mod Walks
+pub mod Reading
 pub mod Links

@@ -14,33 +14,37 @@ use Rattle.std.specs.Prelude.{Some, None}
 use Rattle.records.specs.Select.{keep}
 use Rattle.records.proofs.Loops.{rest, rest_cons, rest_nil}
 use Rattle.records.proofs.Picks.{keep-keep}
-use Rattle.item.specs.Items.{Fields, items}
+use Rattle.item.specs.declared.Item.{Item}
+use Rattle.item.specs.Items.{Fields, fields, item_of}
 use Rattle.item.proofs.Laws.{items-length}
 use Rattle.table.specs.declared.Row.{Row}
-use Rattle.table.specs.Rows.{row_of, rows, table_kept, find}
+use Rattle.table.specs.declared.Table.{Table}
+use Rattle.table.specs.Rows.{row_of, rows, table_kept, Found, find}
 use Rattle.table.proofs.Laws.{kept_rising, found_below, found_row, found_start, missing-none, rows_at, rows-length, rows-rest}
 use Rattle.cut_def.specs.Refs.{Ref}
-use Rattle.ref_def.specs.Drops.{InLeaf, in_leaves, drops_of, releases, unrefs}
-use Rattle.ref_def.proofs.Drops.{leaves-length}
+use Rattle.ref_def.specs.Drops.{InLeaf, drops_of, releases, unrefs}
+use Rattle.ref_def.specs.Lent.{leaves_of}
+use Rattle.ref_def.specs.declared.Leaves.{Leaves}
 use Rattle.plan_lines.specs.Lines.{Laid}
 use Rattle.plan_lines.proofs.Laws.{Going, going_first, going_done}
 use Rattle.std.specs.declared.ops.Range.{Range}
-use Rattle.drop_chains.specs.Chains.{leader, Chain, freed, line_in, unref_lines, release_lines}
-use Rattle.drop_chains.specs.Links.{drops_by, drop_at, wider, Blank, Linked}
-use Rattle.drop_chains.proofs.Walks.{lead_yes, lead_no, lead_nil, lead_none}
+use Rattle.drop_chains.specs.Chains.{along, From, Onward, freed, line_in, unref_lines, release_lines}
+use Rattle.drop_chains.specs.Links.{drops_by, drop_at, Links, linked, Blank, Linked}
+use Rattle.drop_chains.proofs.Walks.{along_nil, along_at, along_set}
+use Rattle.drop_chains.proofs.Reading.{leaves_many, leaves_here}
 
 -- ---- which row a drop is of
 
-module _ (dropped : Fields → Bool) (rs : List Row) (kept : table_kept rs ≡ true) (d : InLeaf) (start : ℕ) (e : start ≡ d.item.extent_start) where
-  module _ (k : ℕ) (row : Row) (h : Some (k, row) ≡ find start rs) where
+module _ (dropped : Fields → Bool) (rs : List Row) (kept : table_kept rs ≡ true) (d : InLeaf) where
+  module _ (k : ℕ) (row : Row) (h : Some (k, row) ≡ find d.item.extent_start rs) where
     pub found_in : k < length rs
-    found_in = found_below rs start k row (sym h)
+    found_in = found_below rs d.item.extent_start k row (sym h)
 
-    found_there : (x : Row) → (get_or rs k x).start ≡ start
-    found_there x = ap (λ (r : Row). r.start) (sym (found_row rs start k row (sym h) x)) ∙ found_start rs start k row (sym h)
+    found_there : (x : Row) → (get_or rs k x).start ≡ d.item.extent_start
+    found_there x = ap (λ (r : Row). r.start) (sym (found_row rs d.item.extent_start k row (sym h) x)) ∙ found_start rs d.item.extent_start k row (sym h)
 
     of_this : dropped d.item ≡ true → (x : Row) → drop_at dropped (get_or rs k x).start d ≡ true
-    of_this t x = rw (t, eq-eqb d.item.extent_start (get_or rs k x).start (sym e ∙ sym (found_there x))) refl
+    of_this t x = rw (t, eq-eqb d.item.extent_start (get_or rs k x).start (sym (found_there x))) refl
 
     of_other : (y : ℕ) (x : Row) → y < length rs → (y ≡ k → ⊥) → drop_at dropped (get_or rs y x).start d ≡ false
     of_other y x l n =
@@ -51,34 +55,37 @@ module _ (dropped : Fields → Bool) (rs : List Row) (kept : table_kept rs ≡ t
         ]) in
         rw q (and-false (dropped d.item))
 
-  pub of_none : None ≡ find start rs → (y : ℕ) (x : Row) → y < length rs → drop_at dropped (get_or rs y x).start d ≡ false
+  pub of_none : None ≡ find d.item.extent_start rs → (y : ℕ) (x : Row) → y < length rs → drop_at dropped (get_or rs y x).start d ≡ false
   of_none h y x l =
-      let q : eqb d.item.extent_start (get_or rs y x).start ≡ false = ne_eqb d.item.extent_start (get_or rs y x).start (λ z. missing-none rs start (sym h) y x l (sym z ∙ sym e)) in
+      let q : eqb d.item.extent_start (get_or rs y x).start ≡ false = ne_eqb d.item.extent_start (get_or rs y x).start (λ z. missing-none rs d.item.extent_start (sym h) y x l (sym z)) in
       rw q (and-false (dropped d.item))
 
 -- ---- one more item
 
-never : (b : Bool) → b ≡ false → b ≡ true → ⊥
-never b p q = let z : ◌≡◌ {A = ℕ} 0 1 = cc in omega arith
-
 module _
-    (dropped : Fields → Bool) (rs : List Row) (ds : List InLeaf) (i : ℕ) (heads nexts : List ℕ) (s : Range ℕ)
-    (done : Linked dropped rs ds (i + 1) heads nexts s) (h : i < length ds) (d : InLeaf) (e : (x : InLeaf) → get_or ds i x ≡ d) where
+    (dropped : Fields → Bool) (rs : List Row) (ds : List InLeaf) (i : ℕ) (l : Links)
+    (done : Linked dropped rs ds (i + 1) l) (h : i < length ds) (d : InLeaf) (e : (x : InLeaf) → get_or ds i x ≡ d) where
   next_here : drop i ds ≡ d ∷ drop (i + 1) ds
   next_here = drop-cons ds i d h ∙ rw (e d, add-one) refl
 
+  kept_no : (start : ℕ) → drop_at dropped start d ≡ false → keep (drop_at dropped start) (drop i ds) ≡ keep (drop_at dropped start) (drop (i + 1) ds)
+  unfolding keep
+  kept_no start n = ap (keep (drop_at dropped start)) next_here ∙ rw n refl
+
+  kept_yes : (start : ℕ) → drop_at dropped start d ≡ true → keep (drop_at dropped start) (drop i ds) ≡ d ∷ keep (drop_at dropped start) (drop (i + 1) ds)
+  unfolding keep
+  kept_yes start n = ap (keep (drop_at dropped start)) next_here ∙ rw n refl
+
   -- no row's drop
-  pub linked_skip : ((k : ℕ) (x : Row) → k < length rs → drop_at dropped (get_or rs k x).start d ≡ false) → Linked dropped rs ds i heads nexts s
+  linked_skip : ((k : ℕ) (x : Row) → k < length rs → drop_at dropped (get_or rs k x).start d ≡ false) → Linked dropped rs ds i l
   linked_skip skips =
       record {
         few = done.few;
         row_room = done.row_room;
         room = done.room;
-        starts = λ k x l. done.starts k x l ∙ sym (ap (leader (drop_at dropped (get_or rs k x).start) i) next_here ∙ lead_no (drop_at dropped (get_or rs k x).start) i d (drop (i + 1) ds) (skips k x l));
-        goes = λ k x l j y m n t. elim (ℕ_discrete j i) [
-          | yes q ↦ absurd (never (drop_at dropped (get_or rs k x).start d) (skips k x l) (sym (ap (drop_at dropped (get_or rs k x).start) (ap (λ (a : ℕ). get_or ds a y) q ∙ e y)) ∙ t))
-          | no q ↦ done.goes k x l j y (omega arith) n t
-        ];
+        starts = λ k m z. let y = done.starts k m z in (omega (arith, y.0), y.1);
+        onward = done.onward;
+        those = λ k x m. done.those k x m ∙ sym (kept_no (get_or rs k x).start (skips k x m));
         low = done.low;
         high = done.high;
         before = done.before;
@@ -86,96 +93,115 @@ module _
       }
 
   -- not dropped
-  pub linked_kept : (t : Bool) → t ≡ dropped d.item → t ≡ false → Linked dropped rs ds i heads nexts s
-  linked_kept t q z = linked_skip (λ k x l. rw (sym q ∙ z) refl)
+  pub linked_kept : dropped d.item ≡ false → Linked dropped rs ds i l
+  linked_kept z = linked_skip (λ k x m. rw z refl)
 
-  -- a drop of row r, put before its chain
-  module _
-      (kept : table_kept rs ≡ true) (start : ℕ) (p : start ≡ d.item.extent_start) (r : ℕ) (row : Row) (f : Some (r, row) ≡ find start rs)
-      (t : Bool) (q : t ≡ dropped d.item) (z : t ≡ true) where
-    r_in : r < length rs
-    r_in = found_in dropped rs kept d start p r row f
-
-    linked_wide : Linked dropped rs ds i (set heads r (i + 1)) (set nexts i (get_or heads r 0)) (wider s r)
-    linked_wide =
+  module _ (kept : table_kept rs ≡ true) (t : dropped d.item ≡ true) where
+    -- put before the chain of row r
+    linked_put : (r : ℕ) (row : Row) → Some (r, row) ≡ find d.item.extent_start rs → Linked dropped rs ds i (linked (Some (r, row)) i l)
+    linked_put r row f =
         record {
           few = done.few;
           row_room = rw length-set done.row_room;
           room = rw length-set done.room;
-          starts = λ k x l. elim (ℕ_discrete k r) [
-            | yes m ↦ ap (λ (a : ℕ). get_or (set heads r (i + 1)) a 0) m ∙ get_or-set_same heads r (i + 1) 0 (omega (arith, r_in, done.row_room)) ∙ sym (first-at k x (rw m (of_this dropped rs kept d start p r row f (sym q ∙ z) x)))
-            | no m ↦ get_or-set_other heads r k (i + 1) 0 m ∙ done.starts k x l ∙ sym (ap (leader (drop_at dropped (get_or rs k x).start) i) next_here ∙ lead_no (drop_at dropped (get_or rs k x).start) i d (drop (i + 1) ds) (of_other dropped rs kept d start p r row f k x l m))
-          ];
-          goes = λ k x l j y m n u. elim (ℕ_discrete j i) [
-            | yes a ↦ next-at k x j y a (ℕ_discrete k r) l u
-            | no a ↦ get_or-set_other nexts i j (get_or heads r 0) 0 a ∙ done.goes k x l j y (omega arith) n u
+          starts = λ k m. start_at k m (ℕ_discrete k r);
+          onward = onward-put;
+          those = λ k x m. elim (ℕ_discrete k r) [
+            | yes q ↦
+                ap (λ (a : ℕ). along nexts' 0 a ds) (head_at k q) ∙ along_at nexts' ds (length ds) i d h (onward-put i h)
+                ∙ ap₂ (λ (a : InLeaf) (b : List InLeaf). a ∷ b) (e d) (ap (λ (a : ℕ). along nexts' 0 a ds) next-at ∙ along_set l.nexts ds (length ds) i h₀ h₀ past ∙ ap (λ (a : ℕ). along l.nexts 0 (get_or l.heads a 0) ds) (sym q) ∙ done.those k x m)
+                ∙ sym (kept_yes (get_or rs k x).start (rw q (of_this dropped rs kept d r row f t x)))
+            | no q ↦
+                ap (λ (a : ℕ). along nexts' 0 a ds) (get_or-set_other l.heads r k (i + 1) 0 q) ∙ along_set l.nexts ds (length ds) i h₀ (get_or l.heads k 0) (done.starts k m) ∙ done.those k x m
+                ∙ sym (kept_no (get_or rs k x).start (of_other dropped rs kept d r row f k x m q))
           ];
           low = omega (arith, done.low);
           high = omega (arith, done.high, r_in);
-          before = λ k m. get_or-set_other heads r k (i + 1) 0 (omega arith) ∙ done.before k (omega arith);
-          behind = λ k m l. get_or-set_other heads r k (i + 1) 0 (omega arith) ∙ done.behind k (omega arith) l;
+          before = λ k m. get_or-set_other l.heads r k (i + 1) 0 (omega arith) ∙ done.before k (omega arith);
+          behind = λ k m n. get_or-set_other l.heads r k (i + 1) 0 (omega arith) ∙ done.behind k (omega arith) n;
         }
       where
-        first-at : (k : ℕ) (x : Row) → drop_at dropped (get_or rs k x).start d ≡ true → leader (drop_at dropped (get_or rs k x).start) i (drop i ds) ≡ i + 1
-        first-at k x u = ap (leader (drop_at dropped (get_or rs k x).start) i) next_here ∙ lead_yes (drop_at dropped (get_or rs k x).start) i d (drop (i + 1) ds) u
+        r_in : r < length rs
+        r_in = found_in dropped rs kept d r row f
 
-        -- what stands at the item: the head that its row had
-        next-at : (k : ℕ) (x : Row) (j : ℕ) (y : InLeaf) → j ≡ i → Dec (k ≡ r) → k < length rs → drop_at dropped (get_or rs k x).start (get_or ds j y) ≡ true
-            → get_or (set nexts i (get_or heads r 0)) j 0 ≡ leader (drop_at dropped (get_or rs k x).start) (j + 1) (drop (j + 1) ds)
-        next-at k x j y a (yes b) l u =
-            ap (λ (n : ℕ). get_or (set nexts i (get_or heads r 0)) n 0) a
-            ∙ get_or-set_same nexts i (get_or heads r 0) 0 (omega (arith, done.room))
-            ∙ done.starts r x r_in
-            ∙ ap₂ (λ (m n : ℕ). leader (drop_at dropped (get_or rs m x).start) (n + 1) (drop (n + 1) ds)) (sym b) (sym a)
-        next-at k x j y a (no b) l u =
-            absurd (never (drop_at dropped (get_or rs k x).start d) (of_other dropped rs kept d start p r row f k x l b) (sym (ap (drop_at dropped (get_or rs k x).start) (ap (λ (n : ℕ). get_or ds n y) a ∙ e y)) ∙ u))
+        h₀ : ℕ
+        h₀ = get_or l.heads r 0
 
-    pub linked_put : (s' : Range ℕ) → s' ≡ wider s r → Linked dropped rs ds i (set heads r (i + 1)) (set nexts i (get_or heads r 0)) s'
-    linked_put s' u = rw u linked_wide
+        nexts' : List ℕ
+        nexts' = set l.nexts i h₀
+
+        past : From (i + 1) (length ds) h₀
+        past = done.starts r r_in
+
+        head_at : (k : ℕ) → k ≡ r → get_or (set l.heads r (i + 1)) k 0 ≡ i + 1
+        head_at k q = ap (λ (a : ℕ). get_or (set l.heads r (i + 1)) a 0) q ∙ get_or-set_same l.heads r (i + 1) 0 (omega (arith, r_in, done.row_room))
+
+        start_at : (k : ℕ) → k < length rs → Dec (k ≡ r) → From i (length ds) (get_or (set l.heads r (i + 1)) k 0)
+        start_at k m (yes q) z = (omega (arith, head_at k q), omega (arith, head_at k q))
+        start_at k m (no q) z =
+            let o = get_or-set_other l.heads r k (i + 1) 0 q in
+            let y = done.starts k m (λ w. z (o ∙ w)) in
+            (omega (arith, o, y.0), omega (arith, o, y.1))
+
+        next-at : get_or nexts' i 0 ≡ h₀
+        next-at = get_or-set_same l.nexts i h₀ 0 (omega (arith, done.room))
+
+        onward-put : Onward (length ds) nexts'
+        onward-put j m = elim (ℕ_discrete j i) [
+          | yes q ↦ rw (q, next-at) past
+          | no q ↦ rw (get_or-set_other l.nexts i j h₀ 0 q) (done.onward j m)
+        ]
+
+    -- put before the chain of its row, if it has one
+    pub linked_drop : (o : Found) → o ≡ find d.item.extent_start rs → Linked dropped rs ds i (linked o i l)
+    linked_drop (Some (r, row)) f = linked_put r row f
+    linked_drop None f = linked_skip (of_none dropped rs kept d f)
+
+-- a turn of a loop over a list's items, from the last to the first: item i is the next, and those from m on are chained
+module _
+    (dropped : Fields → Bool) (t : Table) (leaves : Leaves) (m i : ℕ) (l : Links) (n : m ≡ i + 1) (done : Linked dropped (rows t.numbers.now) (leaves_of leaves) m l)
+    (h : i < length leaves.shared.now) (item : Item) (q : item ≡ item_of (drop (i * 70) leaves.list.now)) (b : Bool) (e : b ≡ dropped (fields item)) where
+  pub turn_kept : b ≡ false → Linked dropped (rows t.numbers.now) (leaves_of leaves) i l
+  turn_kept z = linked_kept dropped (rows t.numbers.now) (leaves_of leaves) i l (rw n at done) (omega (arith, leaves_many leaves)) _ (λ x. leaves_here leaves i x item h q) (sym e ∙ z)
+
+  pub turn_linked : b ≡ true → (l' : Links) → l' ≡ linked (find (fields item).extent_start (rows t.numbers.now)) i l → Linked dropped (rows t.numbers.now) (leaves_of leaves) i l'
+  turn_linked z l' u =
+      rw u (linked_drop dropped (rows t.numbers.now) (leaves_of leaves) i l (rw n at done) (omega (arith, leaves_many leaves)) _ (λ x. leaves_here leaves i x item h q) t.kept (sym e ∙ z) _ refl)
 
 -- ---- before the first item is put in
 
--- arrays of n zeros
-pub blank : (n : ℕ) (t list shared : List ℕ) → length shared ≡ length (items list) → n ≤ 65536 → length t / 5 ≤ n → length list / 70 ≤ n → Blank (rows t) (in_leaves (items list) shared) (replicate n 0) (replicate n 0)
-blank n t list shared l h r f =
-    let a = leaves-length (items list) shared l in
-    let b = items-length list in
-    record {
-      few = omega arith;
-      row_room = rw (length-replicate {A = ℕ} n 0) (omega (arith, rows-length t));
-      room = rw (length-replicate {A = ℕ} n 0) (omega arith);
-      none = λ k m. get_or-replicate {A = ℕ} n k 0 0 (omega (arith, rows-length t));
-    }
-
-pub linked_first : (dropped : Fields → Bool) (t : List ℕ) (ds : List InLeaf) (heads nexts : List ℕ) (i : ℕ) → Blank (rows t) ds heads nexts → length ds ≤ i → Linked dropped (rows t) ds i heads nexts (record { start = length t / 5; end = 0 })
-linked_first dropped t ds heads nexts i b h =
+-- no item is chained yet
+pub linked_first : (dropped : Fields → Bool) (rs : List Row) (ds : List InLeaf) (i : ℕ) (l : Links) → Blank rs ds l → length ds ≤ i → Linked dropped rs ds i l
+unfolding keep
+linked_first dropped rs ds i l b h =
     record {
       few = b.few;
       row_room = b.row_room;
       room = b.room;
-      starts = λ k x l. b.none k l ∙ sym (ap (leader (drop_at dropped (get_or (rows t) k x).start) i) (drop_of_length-le ds {i = i} h) ∙ lead_nil (drop_at dropped (get_or (rows t) k x).start) i);
-      goes = λ k x l j y m n u. absurd (omega arith);
-      low = omega (arith, rows-length t);
-      high = omega arith;
-      before = λ k m. b.none k (omega (arith, rows-length t));
-      behind = λ k m l. b.none k l;
+      starts = λ k m z. absurd (z (b.none k m));
+      onward = λ j m z. absurd (z (b.ends j m));
+      those = λ k x m. ap (λ (a : ℕ). along l.nexts 0 a ds) (b.none k m) ∙ along_nil l.nexts ds 0 ∙ sym (ap (keep (drop_at dropped (get_or rs k x).start)) (drop_of_length-le ds {i = i} h));
+      low = omega (arith, b.low);
+      high = omega (arith, b.high);
+      before = λ k m. b.none k (omega (arith, b.low));
+      behind = λ k m n. b.none k n;
     }
 
-pub linked_same : (dropped : Fields → Bool) (rs : List Row) (ds : List InLeaf) (i j : ℕ) (heads nexts : List ℕ) (s : Range ℕ) → i ≡ j → Linked dropped rs ds i heads nexts s → Linked dropped rs ds j heads nexts s
-linked_same dropped rs ds i j heads nexts s e l = rw (← e) l
-
--- ---- the chain of each row
-
-module _ (dropped : Fields → Bool) (t : List ℕ) (ds : List InLeaf) (heads nexts : List ℕ) (s : Range ℕ) (done : Linked dropped (rows t) ds 0 heads nexts s) where
-  pub chain_of : (k : ℕ) (row : Row) (head : ℕ) → k < length t / 5 → row ≡ row_of (drop (k * 5) t) → head ≡ get_or heads k 0 → Chain (drop_at dropped row.start) ds nexts head
-  chain_of k row head h e z =
-      let l : k < length (rows t) = omega (arith, rows-length t) in
-      let q : get_or (rows t) k row ≡ row = rows_at t k row h ∙ sym e in
-      record {
-        room = done.room;
-        starts = z ∙ done.starts k row l ∙ ap (λ (r : Row). leader (drop_at dropped r.start) 0 ds) q;
-        goes = λ j y n u. done.goes k row l j y (omega arith) n (ap (λ (r : Row). drop_at dropped r.start (get_or ds j y)) q ∙ u) ∙ ap (λ (r : Row). leader (drop_at dropped r.start) (j + 1) (drop (j + 1) ds)) q;
-      }
+-- arrays of n zeros
+pub blank : (n : ℕ) (t : List ℕ) (l : Leaves) (s : Range ℕ) → n ≤ 65536 → length t / 5 ≤ n → length l.list.now / 70 ≤ n → s.start ≡ length t / 5 → s.end ≡ 0
+    → Blank (rows t) (leaves_of l) (record { heads = replicate n 0; nexts = replicate n 0; span = s })
+blank n t l s h r f a b =
+    let m = leaves_many l in
+    let i = items-length l.list.now in
+    record {
+      few = omega (arith, l.one_each);
+      row_room = rw (length-replicate {A = ℕ} n 0) (omega (arith, rows-length t));
+      room = rw (length-replicate {A = ℕ} n 0) (omega (arith, l.one_each));
+      none = λ k q. get_or-replicate {A = ℕ} n k 0 0 (omega (arith, rows-length t));
+      ends = λ j q. get_or-replicate {A = ℕ} n j 0 0 (omega (arith, l.one_each));
+      low = omega (arith, rows-length t);
+      high = b;
+    }
 
 -- ---- the lines of rows from k on
 
@@ -234,23 +260,28 @@ no_unref n = go (freed n [])
     go true = refl
     go false = refl
 
-module _ (kind : ℕ → List InLeaf → List Ref) (none : (n : ℕ) → kind n [] ≡ []) (dropped : Fields → Bool) (t : List ℕ) (hs : List InLeaf) (heads nexts : List ℕ) (s : Range ℕ) (done : Linked dropped (rows t) hs 0 heads nexts s) where
-  no_lines : (k : ℕ) → k < length t / 5 → get_or heads k 0 ≡ 0 → row_chain kind dropped hs (row_of (drop (k * 5) t)) ≡ []
-  no_lines k h z =
-      let row = row_of (drop (k * 5) t) in
-      let first = (chain_of dropped t hs heads nexts s done k row (get_or heads k 0) h refl refl).starts in
-      ap (kind row.references) (lead_none (drop_at dropped row.start) hs 0 (sym first ∙ z)) ∙ none row.references
+-- ---- the chain of each row, and the lines of all
 
-  -- a loop over the range's rows, as it starts and as it ends
-  pub span-first : (f : Ref → List ℕ) (v n : ℕ) (out : List ℕ) (k : ℕ) → s.start ≡ k → Going f v n (flat_map (row_chain kind dropped hs) (rows t)) out n (flat_map (row_chain kind dropped hs) (rest row_of 5 t (length t / 5) k)) out
-  span-first f v n out k q =
-      let g = row_chain kind dropped hs in
-      let e : flat_map g (rows t) ≡ flat_map g (rest row_of 5 t (length t / 5) s.start) =
-      ap (flat_map g) (sym (rows-rest t)) ∙ rows_skip g t (length t / 5) s.start (omega (arith, done.low, rows-length t)) (λ j m. no_lines j (omega (arith, done.low, rows-length t)) (done.before j m)) in
-      rw (← q, ← e) (going_first f v n (flat_map g (rows t)) out)
+module _ (dropped : Fields → Bool) (t : List ℕ) (ds : List InLeaf) (l : Links) (done : Linked dropped (rows t) ds 0 l) where
+  pub chain_of : (k : ℕ) (row : Row) → k < length t / 5 → row ≡ row_of (drop (k * 5) t) → along l.nexts 0 (get_or l.heads k 0) ds ≡ keep (drop_at dropped row.start) ds
+  chain_of k row h e = done.those k row (omega (arith, rows-length t)) ∙ ap (λ (r : Row). keep (drop_at dropped r.start) ds) (rows_at t k row h ∙ sym e)
 
-  pub span-done : (f : Ref → List ℕ) (v n₀ : ℕ) (all : List Ref) (out₀ : List ℕ) (n : ℕ) (out : List ℕ) (k : ℕ) → s.end ≤ k → Going f v n₀ all out₀ n (flat_map (row_chain kind dropped hs) (rest row_of 5 t (length t / 5) k)) out → Laid f v n₀ all out₀ n out
-  span-done f v n₀ all out₀ n out k h going =
-      let g = row_chain kind dropped hs in
-      let e : flat_map g (rest row_of 5 t (length t / 5) k) ≡ [] = rows_empty g t (length t / 5) (length t / 5) k (omega arith) (λ j p q. no_lines j q (done.behind j (omega arith) (omega (arith, rows-length t)))) in
-      going_done f v n₀ all out₀ n out (rw e at going)
+  module _ (kind : ℕ → List InLeaf → List Ref) (none : (n : ℕ) → kind n [] ≡ []) where
+    no_lines : (k : ℕ) → k < length t / 5 → get_or l.heads k 0 ≡ 0 → row_chain kind dropped ds (row_of (drop (k * 5) t)) ≡ []
+    no_lines k h z =
+        let row = row_of (drop (k * 5) t) in
+        ap (kind row.references) (sym (chain_of k row h refl) ∙ ap (λ (a : ℕ). along l.nexts 0 a ds) z ∙ along_nil l.nexts ds 0) ∙ none row.references
+
+    -- a loop over the range's rows, as it starts and as it ends
+    pub span-first : (f : Ref → List ℕ) (v n : ℕ) (out : List ℕ) → Going f v n (flat_map (row_chain kind dropped ds) (rows t)) out n (flat_map (row_chain kind dropped ds) (rest row_of 5 t (length t / 5) l.span.start)) out
+    span-first f v n out =
+        let g = row_chain kind dropped ds in
+        let e : flat_map g (rows t) ≡ flat_map g (rest row_of 5 t (length t / 5) l.span.start) =
+        ap (flat_map g) (sym (rows-rest t)) ∙ rows_skip g t (length t / 5) l.span.start (omega (arith, done.low, rows-length t)) (λ j m. no_lines j (omega (arith, done.low, rows-length t)) (done.before j m)) in
+        rw (← e) (going_first f v n (flat_map g (rows t)) out)
+
+    pub span-done : (f : Ref → List ℕ) (v n₀ : ℕ) (all : List Ref) (out₀ : List ℕ) (n : ℕ) (out : List ℕ) (k : ℕ) → l.span.end ≤ k → Going f v n₀ all out₀ n (flat_map (row_chain kind dropped ds) (rest row_of 5 t (length t / 5) k)) out → Laid f v n₀ all out₀ n out
+    span-done f v n₀ all out₀ n out k h going =
+        let g = row_chain kind dropped ds in
+        let e : flat_map g (rest row_of 5 t (length t / 5) k) ≡ [] = rows_empty g t (length t / 5) (length t / 5) k (omega arith) (λ j p q. no_lines j q (done.behind j (omega arith) (omega (arith, rows-length t)))) in
+        going_done f v n₀ all out₀ n out (rw e at going)

@@ -1,160 +1,103 @@
 -- Laws of chains: what a walk along one takes, counts and lays. Assumes nothing.
 use mathlib.Core.Path.{◌≡◌, refl, ap, ap₂, ◌∙◌, sym}
-use mathlib.Core.Bool.{Bool, true, false, ◌&&◌, and-true, and_assoc}
+use mathlib.Core.Bool.{Bool, true, false, cond, ◌&&◌, and-true, and_assoc}
 use mathlib.Core.List.{List, [], ◌∷◌, map}
-use Prim.Native.Nat.{ℕ, zero, suc, ◌+◌, ◌-◌, ◌*◌, ◌/◌, ◌<◌, ◌≤◌}
+use Prim.Native.Nat.{ℕ, zero, suc, ◌+◌, ◌<◌, ◌≤◌}
 use native.Mathlib.Omega.{arith}
-use native.Mathlib.Nat.{zero-add}
 use lib.Dec.{eqb}
-use lib.ListN.{length, get_or, drop, length-map, length-drop}
-use lib.Seq.{drop-drop, get_or-drop}
-use Rattle.records.specs.Select.{keep}
+use lib.ListN.{length, get_or, set, drop, length-map}
+use lib.Seq.{drop-cons, get_or-set_other}
+use borrow.Author.Tests.{eq-eqb, ne_eqb}
 use Rattle.records.specs.Stages.{every}
-use Rattle.item.specs.Items.{Fields, items, decode}
-use Rattle.item.proofs.Laws.{items-length, items_at}
 use Rattle.cut_def.specs.Refs.{Ref}
-use Rattle.ref_def.specs.Drops.{InLeaf, in_leaves}
-use Rattle.ref_def.proofs.Drops.{leaves-length}
+use Rattle.ref_def.specs.Drops.{InLeaf}
 use Rattle.plan_lines.specs.Lines.{Laid}
 use Rattle.plan_lines.proofs.Laws.{Going, going-turn, going_done}
-use Rattle.drop_chains.specs.Chains.{leader, Chain, unshared, freed, line_in, unref_lines, release_lines}
+use Rattle.drop_chains.specs.Chains.{along, From, unshared, freed, line_in, unref_lines, release_lines}
 
-module _ {A : Type 0} (p : A → Bool) where
-  -- ---- the first that passes
+module _ {A : Type 0} where
+  along_yes : (nexts : List ℕ) (i h : ℕ) (x : A) (l : List A) → h ≡ i + 1 → along nexts i h (x ∷ l) ≡ x ∷ along nexts (i + 1) (get_or nexts i 0) l
+  unfolding along
+  along_yes nexts i h x l e = rw (eq-eqb h (i + 1) e) refl
 
-  pub lead_yes : (i : ℕ) (x : A) (xs : List A) → p x ≡ true → leader p i (x ∷ xs) ≡ i + 1
-  unfolding leader
-  lead_yes i x xs h = rw h refl
+  along_no : (nexts : List ℕ) (i h : ℕ) (x : A) (l : List A) → (h ≡ i + 1 → ⊥) → along nexts i h (x ∷ l) ≡ along nexts (i + 1) h l
+  unfolding along
+  along_no nexts i h x l n = rw (ne_eqb h (i + 1) n) refl
 
-  pub lead_no : (i : ℕ) (x : A) (xs : List A) → p x ≡ false → leader p i (x ∷ xs) ≡ leader p (i + 1) xs
-  unfolding leader
-  lead_no i x xs h = rw h refl
+  pub along_nil : (nexts : List ℕ) (l : List A) (i : ℕ) → along nexts i 0 l ≡ []
+  unfolding along
+  along_nil nexts [] i = refl
+  along_nil nexts (x ∷ l) i = along_no nexts i 0 x l (λ e. omega arith) ∙ along_nil nexts l (i + 1)
 
-  pub lead_nil : (i : ℕ) → leader p i [] ≡ 0
-  unfolding leader
-  lead_nil i = refl
+  -- items in front of the next one are none of the chain
+  along_skip : (nexts : List ℕ) (l : List A) (k i m h : ℕ) → m ≡ i + k → ((h ≡ 0 → ⊥) → m < h) → along nexts i h l ≡ along nexts m h (drop k l)
+  unfolding along
+  along_skip nexts l zero i m h e n = let q : i ≡ m = omega arith in ap (λ (j : ℕ). along nexts j h l) q
+  along_skip nexts [] (suc k) i m h e n = refl
+  along_skip nexts (x ∷ l) (suc k) i m h e n = along_no nexts i h x l (λ q. let y = n (λ z. omega arith) in omega arith) ∙ along_skip nexts l k (i + 1) m h (omega arith) n
 
-  keep-yes : (x : A) (xs : List A) → p x ≡ true → keep p (x ∷ xs) ≡ x ∷ keep p xs
-  unfolding keep
-  keep-yes x xs h = rw h refl
+  -- the item at index j, and then those at the number that stands there
+  pub along_at : (nexts : List ℕ) (l : List A) (n j : ℕ) (x : A) → j < length l → From (j + 1) n (get_or nexts j 0)
+      → along nexts 0 (j + 1) l ≡ get_or l j x ∷ along nexts 0 (get_or nexts j 0) l
+  along_at nexts l n j x b g =
+      let next : suc j ≡ j + 1 = omega arith in
+      along_skip nexts l j 0 j (j + 1) (omega arith) (λ y. omega arith)
+      ∙ ap (along nexts j (j + 1)) (drop-cons l j x b ∙ ap (λ (k : ℕ). get_or l j x ∷ drop k l) next)
+      ∙ along_yes nexts j (j + 1) (get_or l j x) (drop (j + 1) l) refl
+      ∙ ap (λ (r : List A). get_or l j x ∷ r) (sym (along_skip nexts l (j + 1) 0 (j + 1) (get_or nexts j 0) (omega arith) (λ y. (g y).0)))
 
-  keep-no : (x : A) (xs : List A) → p x ≡ false → keep p (x ∷ xs) ≡ keep p xs
-  unfolding keep
-  keep-no x xs h = rw h refl
+  -- a number at an item in front of a chain is not read
+  along_later : (nexts : List ℕ) (l : List A) (j v i h : ℕ) → j < i → along (set nexts j v) i h l ≡ along nexts i h l
+  unfolding along
+  along_later nexts [] j v i h m = refl
+  along_later nexts (x ∷ l) j v i h m =
+      ap₂ (λ (p q : List A). cond (eqb h (i + 1)) (x ∷ p) q)
+      (ap (λ (k : ℕ). along (set nexts j v) (i + 1) k l) (get_or-set_other nexts j i v 0 (λ e. omega arith)) ∙ along_later nexts l j v (i + 1) (get_or nexts i 0) (omega arith))
+      (along_later nexts l j v (i + 1) h (omega arith))
 
-  -- none passes
-  pub lead_none : (xs : List A) (i : ℕ) → leader p i xs ≡ 0 → keep p xs ≡ []
-  unfolding keep
-  lead_none [] i h = refl
-  lead_none (x ∷ xs) i h = go (p x) refl (lead_none xs (i + 1))
+  pub along_set : (nexts : List ℕ) (l : List A) (n j v h : ℕ) → From (j + 1) n h → along (set nexts j v) 0 h l ≡ along nexts 0 h l
+  along_set nexts l n j v h g =
+      along_skip (set nexts j v) l (j + 1) 0 (j + 1) h (omega arith) (λ y. (g y).0)
+      ∙ along_later nexts (drop (j + 1) l) j v (j + 1) h (omega arith)
+      ∙ sym (along_skip nexts l (j + 1) 0 (j + 1) h (omega arith) (λ y. (g y).0))
+
+  -- no more than there are
+  pub along_few : (nexts : List ℕ) (l : List A) (i h : ℕ) → length (along nexts i h l) ≤ length l
+  unfolding along
+  along_few nexts [] i h = omega arith
+  along_few nexts (x ∷ l) i h = go (eqb h (i + 1)) (along_few nexts l (i + 1) (get_or nexts i 0)) (along_few nexts l (i + 1) h)
     where
-      go : (b : Bool) → p x ≡ b → (leader p (i + 1) xs ≡ 0 → keep p xs ≡ []) → keep p (x ∷ xs) ≡ []
-      go true e rec = absurd (omega (arith, lead_yes i x xs e))
-      go false e rec = keep-no x xs e ∙ rec (sym (lead_no i x xs e) ∙ h)
-
-  -- the first that passes is at index j; those before it do not
-  lead_some : (xs : List A) (i j : ℕ) (e : A) → leader p i xs ≡ j + 1
-      → (i ≤ j) × (j < i + length xs) × (p (get_or xs (j - i) e) ≡ true) × (keep p xs ≡ get_or xs (j - i) e ∷ keep p (drop (j - i + 1) xs))
-  lead_some [] i j e h = absurd (omega (arith, lead_nil i))
-  lead_some (x ∷ xs) i j e h = go (p x) refl (lead_some xs (i + 1) j e)
-    where
-      go : (b : Bool) → p x ≡ b
-          → (leader p (i + 1) xs ≡ j + 1 → (i + 1 ≤ j) × (j < i + 1 + length xs) × (p (get_or xs (j - (i + 1)) e) ≡ true) × (keep p xs ≡ get_or xs (j - (i + 1)) e ∷ keep p (drop (j - (i + 1) + 1) xs)))
-          → (i ≤ j) × (j < i + suc (length xs)) × (p (get_or (x ∷ xs) (j - i) e) ≡ true) × (keep p (x ∷ xs) ≡ get_or (x ∷ xs) (j - i) e ∷ keep p (drop (j - i + 1) (x ∷ xs)))
-      go true t rec =
-          let q = lead_yes i x xs t in
-          let z : j - i ≡ 0 = omega arith in
-          (omega arith, omega arith, rw z t, rw z (keep-yes x xs t))
-      go false t rec =
-          let y = rec (sym (lead_no i x xs t) ∙ h) in
-          let z : j - i ≡ suc (j - (i + 1)) = omega (arith, y.0) in
-          let w : j - i + 1 ≡ suc (j - (i + 1) + 1) = omega (arith, y.0) in
-          (omega (arith, y.0), omega (arith, y.1), rw z y.2, rw (w, z) (keep-no x xs t ∙ y.3))
-
-  -- ---- a walk: `at` is behind the last that was taken, h the number of the next
-
-  module _ (xs : List A) (nexts : List ℕ) (head : ℕ) (chain : Chain p xs nexts head) where
-    pub walk_first : head ≡ leader p 0 (drop 0 xs)
-    walk_first = chain.starts
-
-    pub walk_end : (at h : ℕ) → h ≡ leader p at (drop at xs) → h ≡ 0 → keep p (drop at xs) ≡ []
-    walk_end at h e z = lead_none (drop at xs) at (sym e ∙ z)
-
-    -- x stands for what lies past the end
-    module _ (at h : ℕ) (e : h ≡ leader p at (drop at xs)) (z : h ≡ 0 → ⊥) (low : at ≤ length xs) (x : A) where
-      walk_some : (at ≤ h - 1) × (h - 1 < at + length (drop at xs)) × (p (get_or (drop at xs) (h - 1 - at) x) ≡ true) × (keep p (drop at xs) ≡ get_or (drop at xs) (h - 1 - at) x ∷ keep p (drop (h - 1 - at + 1) (drop at xs)))
-      walk_some =
-          let s : h ≡ h - 1 + 1 = omega arith in
-          lead_some (drop at xs) at (h - 1) x (sym e ∙ s)
-
-      pub walk_up : at < h
-      walk_up = let y = walk_some.0 in omega arith
-
-      pub walk_in : h ≤ length xs
-      walk_in = let y = walk_some.1 in omega (arith, length-drop at xs)
-
-      walk_here : get_or (drop at xs) (h - 1 - at) x ≡ get_or xs (h - 1) x
-      walk_here =
-          let y = walk_some.0 in
-          let s : at + (h - 1 - at) ≡ h - 1 = omega arith in
-          get_or-drop at xs (h - 1 - at) x ∙ ap (λ (k : ℕ). get_or xs k x) s
-
-      pub walk_take : keep p (drop at xs) ≡ get_or xs (h - 1) x ∷ keep p (drop h xs)
-      walk_take =
-          let y = walk_some.0 in
-          let s : at + (h - 1 - at + 1) ≡ h = omega arith in
-          let t : drop (h - 1 - at + 1) (drop at xs) ≡ drop h xs = drop-drop (h - 1 - at + 1) at xs ∙ ap (λ (k : ℕ). drop k xs) s in
-          walk_some.3 ∙ ap₂ (λ (a : A) (l : List A). a ∷ keep p l) walk_here t
-
-      pub walk_next : get_or nexts (h - 1) 0 ≡ leader p h (drop h xs)
-      walk_next =
-          let y = walk_in in
-          let s : h - 1 + 1 ≡ h = omega arith in
-          chain.goes (h - 1) x (omega arith) (ap p (sym walk_here) ∙ walk_some.2) ∙ ap (λ (k : ℕ). leader p k (drop k xs)) s
+      go : (b : Bool) → length (along nexts (i + 1) (get_or nexts i 0) l) ≤ length l → length (along nexts (i + 1) h l) ≤ length l
+          → length (cond b (x ∷ along nexts (i + 1) (get_or nexts i 0) l) (along nexts (i + 1) h l)) ≤ suc (length l)
+      go true p q = omega arith
+      go false p q = omega arith
 
 -- ---- what a walk counts and tests
 
 -- what was counted and tested so far, with what is left, is the whole
-pub record Tally (p : InLeaf → Bool) (all left : List InLeaf) (n : ℕ) (b : Bool) : Type 0 where
-  pub number : n + length (keep p left) ≡ length (keep p all)
-  pub free : (b && every unshared (keep p left)) ≡ every unshared (keep p all)
+pub record Tally (all left : List InLeaf) (n : ℕ) (b : Bool) : Type 0 where
+  pub number : n + length left ≡ length all
+  pub free : (b && every unshared left) ≡ every unshared all
 
-pub tally_first : (p : InLeaf → Bool) (all left : List InLeaf) → left ≡ all → Tally p all left 0 true
-tally_first p all left e = record { number = rw (e, zero-add) refl; free = rw e refl }
+pub tally_first : (all left : List InLeaf) → left ≡ all → Tally all left 0 true
+tally_first all left e = record { number = rw e (omega arith); free = rw e refl }
 
-module _ (p : InLeaf → Bool) (all left : List InLeaf) where
-  pub tally_take : (rest : List InLeaf) (d : InLeaf) (n : ℕ) (b b' : Bool) → keep p left ≡ d ∷ keep p rest → b' ≡ (b && unshared d) → Tally p all left n b → Tally p all rest (n + 1) b'
+module _ (all left : List InLeaf) (n : ℕ) (b : Bool) (t : Tally all left n b) where
+  pub tally_next : (rest : List InLeaf) (d : InLeaf) (b' : Bool) → left ≡ d ∷ rest → b' ≡ (b && unshared d) → Tally all rest (n + 1) b'
   unfolding every
-  tally_take rest d n b b' e q t =
+  tally_next rest d b' e q =
       record {
         number = omega (arith, t.number, ap length e);
-        free = ap (λ (x : Bool). x && every unshared (keep p rest)) q ∙ and_assoc b (unshared d) (every unshared (keep p rest)) ∙ ap (λ (l : List InLeaf). b && every unshared l) (sym e) ∙ t.free;
+        free = ap (λ (x : Bool). x && every unshared rest) q ∙ and_assoc b (unshared d) (every unshared rest) ∙ ap (λ (l : List InLeaf). b && every unshared l) (sym e) ∙ t.free;
       }
 
-  tally_end : (n : ℕ) (b : Bool) → keep p left ≡ [] → Tally p all left n b → (n ≡ length (keep p all)) × (b ≡ every unshared (keep p all))
+  pub tally_end : left ≡ [] → (n ≡ length all) × (b ≡ every unshared all)
   unfolding every
-  tally_end n b e t = (omega (arith, t.number, ap length e), sym (and-true b) ∙ ap (λ (l : List InLeaf). b && every unshared l) (sym e) ∙ t.free)
+  tally_end e = (omega (arith, t.number, ap length e), sym (and-true b) ∙ ap (λ (l : List InLeaf). b && every unshared l) (sym e) ∙ t.free)
 
--- the answer, from what was counted and tested
-pub tally_freed : (p : InLeaf → Bool) (all left : List InLeaf) (references n : ℕ) (b : Bool) → keep p left ≡ [] → Tally p all left n b → (eqb references n && b) ≡ freed references (keep p all)
-tally_freed p all left references n b e t =
-    let z = tally_end p all left n b e t in
-    rw (← z.0, ← z.1) refl
-
--- the item at index i, with its byte
-leaves_at : (fs : List Fields) (bs : List ℕ) (i : ℕ) (e : InLeaf) → length bs ≡ length fs → i < length fs → get_or (in_leaves fs bs) i e ≡ record { item = get_or fs i e.item; shared = get_or bs i 0 }
-unfolding in_leaves
-leaves_at [] bs i e l h = absurd (omega arith)
-leaves_at (f ∷ fs) [] i e l h = absurd (omega arith)
-leaves_at (f ∷ fs) (b ∷ bs) zero e l h = refl
-leaves_at (f ∷ fs) (b ∷ bs) (suc i) e l h = leaves_at fs bs i e (omega arith) (omega arith)
-
-pub leaves_here : (list shared : List ℕ) (i : ℕ) (e : InLeaf) (f : Fields) → length shared ≡ length (items list) → i < length list / 70 → f ≡ decode (drop (i * 70) list) → get_or (in_leaves (items list) shared) i e ≡ record { item = f; shared = get_or shared i 0 }
-leaves_here list shared i e f l h q = leaves_at (items list) shared i e l (omega (arith, items-length list)) ∙ ap (λ (x : Fields). record { item = x; shared = get_or shared i 0 }) (items_at list i e.item h ∙ sym q)
-
--- what stands for an item past the end
-abbrev pub no_leaf : InLeaf
-no_leaf = record { item = decode []; shared = 0 }
+  -- the answer, from what was counted and tested
+  pub tally_freed : left ≡ [] → (references : ℕ) → (eqb references n && b) ≡ freed references all
+  tally_freed e references = let z = tally_end e in rw (← z.0, ← z.1) refl
 
 -- ---- a loop that puts the lines of a chain: its end, and its turn
 
@@ -177,51 +120,3 @@ module _ (references : ℕ) (ds : List InLeaf) (b : Bool) (e : b ≡ freed refer
 
   pub held_releases : b ≡ false → release_lines references ds ≡ []
   held_releases h = rw (sym e ∙ h) refl
-
--- ---- walks along a chain
-
--- `at` is behind the last drop that was taken, h the number of the next
-pub record Walk (p : InLeaf → Bool) (ds : List InLeaf) (at h : ℕ) : Type 0 where
-  pub low : at ≤ length ds
-  pub here : h ≡ leader p at (drop at ds)
-
-module _ (p : InLeaf → Bool) (list shared nexts : List ℕ) (head : ℕ) (l : length shared ≡ length (items list)) (chain : Chain p (in_leaves (items list) shared) nexts head) where
-  pub walk_start : Walk p (in_leaves (items list) shared) 0 head
-  walk_start = record { low = omega arith; here = chain.starts }
-
-  pub walk_stop : (at h : ℕ) → Walk p (in_leaves (items list) shared) at h → h ≡ 0 → keep p (drop at (in_leaves (items list) shared)) ≡ []
-  walk_stop at h w z = walk_end p (in_leaves (items list) shared) nexts head chain at h w.here z
-
-  module _ (at h : ℕ) (w : Walk p (in_leaves (items list) shared) at h) (z : h ≡ 0 → ⊥) where
-    pub walk_moves : at < h
-    walk_moves = walk_up p (in_leaves (items list) shared) nexts head chain at h w.here z w.low no_leaf
-
-    inside : h ≤ length (in_leaves (items list) shared)
-    inside = walk_in p (in_leaves (items list) shared) nexts head chain at h w.here z w.low no_leaf
-
-    pub walk_bytes : h ≤ length shared
-    walk_bytes = omega (arith, inside, leaves-length (items list) shared l)
-
-    pub walk_items : h ≤ length list / 70
-    walk_items = omega (arith, inside, leaves-length (items list) shared l, items-length list)
-
-    pub walk_nexts : h ≤ length nexts
-    walk_nexts = omega (arith, inside, chain.room)
-
-    pub walk_goes : (x : ℕ) → x ≡ get_or nexts (h - 1) 0 → Walk p (in_leaves (items list) shared) h x
-    walk_goes x e = record { low = inside; here = e ∙ walk_next p (in_leaves (items list) shared) nexts head chain at h w.here z w.low no_leaf }
-
-    -- f is the next drop's item
-    pub walk_takes : (f : Fields) → f ≡ decode (drop ((h - 1) * 70) list) → keep p (drop at (in_leaves (items list) shared)) ≡ record { item = f; shared = get_or shared (h - 1) 0 } ∷ keep p (drop h (in_leaves (items list) shared))
-    walk_takes f e =
-        let i : h - 1 < length list / 70 = omega (arith, walk_items) in
-        walk_take p (in_leaves (items list) shared) nexts head chain at h w.here z w.low no_leaf
-        ∙ ap (λ (d : InLeaf). d ∷ keep p (drop h (in_leaves (items list) shared))) (leaves_here list shared (h - 1) no_leaf f l i e)
-
-    pub walk-tally :
-        (n : ℕ) (b b' : Bool) → b' ≡ (b && eqb (get_or shared (h - 1) 0) 0)
-        → Tally p (in_leaves (items list) shared) (drop at (in_leaves (items list) shared)) n b
-        → Tally p (in_leaves (items list) shared) (drop h (in_leaves (items list) shared)) (n + 1) b'
-    walk-tally n b b' q t =
-        let f = decode (drop ((h - 1) * 70) list) in
-        tally_take p (in_leaves (items list) shared) (drop at (in_leaves (items list) shared)) (drop h (in_leaves (items list) shared)) (record { item = f; shared = get_or shared (h - 1) 0 }) n b b' (walk_takes f refl) q t

@@ -1,20 +1,21 @@
 -- For the code only: a chain of items of a list, through an array of numbers: a number is an index and one more, and 0 is none.
-use Rattle.std.specs.Prelude.{Bool, true, cond, ◌&&◌, List, [], ◌∷◌, map, ◌≡◌, ℕ, ◌+◌, ◌≤◌, ◌<◌, eqb, length, get_or, drop}
+use Rattle.std.specs.Prelude.{Bool, cond, ◌&&◌, List, [], ◌∷◌, map, ◌≡◌, ℕ, ◌+◌, ◌≤◌, ◌<◌, eqb, length, get_or}
 use Rattle.records.specs.Stages.{every}
 use Rattle.cut_def.specs.Refs.{Ref, ref_of}
 use Rattle.ref_def.specs.Drops.{InLeaf}
 
-module _ {A : Type 0} (p : A → Bool) where
-  -- of those from index i on, the number of the first that passes
-  unfoldable pub leader : ℕ → List A → ℕ
-  leader i [] = 0
-  leader i (x ∷ xs) = cond (p x) (i + 1) (leader (i + 1) xs)
+-- of items from index i on, those of the chain at number h: behind each that it takes it goes on at the number that stands there
+unfoldable pub along : {A : Type 0} → List ℕ → (i h : ℕ) → List A → List A
+along nexts i h [] = []
+along nexts i h (x ∷ xs) = cond (eqb h (i + 1)) (x ∷ along nexts (i + 1) (get_or nexts i 0) xs) (along nexts (i + 1) h xs)
 
-  -- the chain of those that pass: its head, and at each of them the number of the next
-  pub record Chain (xs : List A) (nexts : List ℕ) (head : ℕ) : Type 0 where
-    pub room : length xs ≤ length nexts
-    pub starts : head ≡ leader 0 xs
-    pub goes : (j : ℕ) (e : A) → j < length xs → p (get_or xs j e) ≡ true → get_or nexts j 0 ≡ leader (j + 1) (drop (j + 1) xs)
+-- a number of none, or of one of n items from index i on
+abbrev pub From : (i n h : ℕ) → Type 0
+From i n h = (h ≡ 0 → ⊥) → (i < h) × (h ≤ n)
+
+-- a chain goes on behind each of n items, so it ends
+abbrev pub Onward : ℕ → List ℕ → Type 0
+Onward n nexts = (j : ℕ) → j < n → From (j + 1) n (get_or nexts j 0)
 
 -- the drops of an extent free it: they are all its references, and none of their leaves is shared
 abbrev pub unshared : InLeaf → Bool

@@ -3,19 +3,22 @@
 // as half the memory is half the time to zero it.
 #![tactic(auto)]
 
-ghost use Rattle.std.specs.Prelude.{◌≡◌, Bool, [], ◌∷◌, map, ◌+◌, ◌*◌, ◌/◌, ◌<◌, ◌^◌, length, drop};
+pub mod chain;
+
+ghost use Rattle.std.specs.Prelude.{◌≡◌, Bool, [], ◌∷◌, map, ◌+◌, ◌≤◌, ◌<◌, ◌^◌, length};
 ghost use Rattle.records.specs.Lent.{old, new};
-ghost use Rattle.records.specs.Select.{keep};
-ghost use Rattle.item.specs.Items.{Fields, fields, decode};
-ghost use Rattle.table.specs.Rows.{rows};
+ghost use Rattle.item.specs.Items.{Fields, fields};
+ghost use Rattle.table.specs.Rows.{rows, find};
 ghost use Rattle.cut_def.specs.Refs.{ref_of};
 ghost use Rattle.plan_def.specs.Outputs.{ref_numbers};
 ghost use Rattle.plan_lines.specs.Lines.{Laid};
-ghost use Rattle.ref_def.specs.Drops.{InLeaf, releases as all_releases, unrefs as all_unrefs};
+ghost use Rattle.ref_def.specs.Drops.{releases as all_releases, unrefs as all_unrefs};
 ghost use Rattle.ref_def.specs.Lent.{leaves_of};
-ghost use Rattle.drop_chains.specs.Chains.{Chain, freed, line_in, unref_lines, release_lines};
-ghost use Rattle.drop_chains.specs.Links.{wider, drops_by, Linked};
+ghost use Rattle.drop_chains.specs.Chains.{freed, line_in, unref_lines, release_lines};
+ghost use Rattle.drop_chains.specs.Links.{drops_by, links, linked, Linked};
+ghost use Rattle.drop_chains.specs.Reading.{left};
 
+pub use chain::Chain;
 use item::Item;
 use ref_def::Leaves;
 use std::ops::Range;
@@ -28,22 +31,15 @@ pub struct DropCounts {
     pub releases: usize,
 }
 
-// Whether the drops of a chain free their extent. `at` is behind the last that was seen. The walk stands here and in put_all as a
-// loop, and is no iterator: a `for` would ask of every chain that it ends, and that a chain ends is no fact of its arrays, but of
-// the list that they were made from, which only the contract names.
-fn is_freed(references: u64, leaves: Leaves, nexts: &[u32], head: usize) -> bool
-    requires { (p : InLeaf → Bool) × Chain p (leaves_of leaves) nexts.now head }
-    ensures { (p : InLeaf → Bool) → Chain p (leaves_of leaves.entry) nexts.now head → result ≡ freed references (keep p (leaves_of leaves.entry)) }
+// Whether the drops of a chain free their extent.
+fn is_freed(references: u64, chain: Chain) -> bool
+    ensures { result ≡ freed references (left chain.entry) }
 {
-    let mut at = 0;
-    let mut h = head;
     let mut drops: u64 = 0;
     let mut free = true;
-    while h != 0 {
+    for (_, byte) in chain {
         drops += 1;
-        free &= leaves.shared[h - 1] == 0;
-        at = h;
-        h = nexts[h - 1] as usize;
+        free &= byte == 0;
     }
     references == drops && free
 }
@@ -59,117 +55,91 @@ fn put_drop(item: Item, out: &mut [u64], n: usize) -> usize
 }
 
 // A line for each drop of a chain.
-fn put_all(leaves: Leaves, nexts: &[u32], head: usize, out: &mut [u64], n: usize) -> usize
-    requires { (p : InLeaf → Bool) × Chain p (leaves_of leaves) nexts.now head × (n + length (keep p (leaves_of leaves)) < 2 ^ 64) }
-    ensures { (p : InLeaf → Bool) → Chain p (leaves_of leaves.entry) nexts.now head → Laid ref_numbers 2 n (map line_in (keep p (leaves_of leaves.entry))) out.old result out.new }
+fn put_all(chain: Chain, out: &mut [u64], n: usize) -> usize
+    requires { n + length (left chain) < 2 ^ 64 }
+    ensures { Laid ref_numbers 2 n (map line_in (left chain.entry)) out.old result out.new }
 {
-    let mut at = 0;
-    let mut h = head;
     let mut m = n;
-    while h != 0 {
-        m = put_drop(item::item_at(leaves.list, h - 1), out, m);
-        at = h;
-        h = nexts[h - 1] as usize;
+    for (item, _) in chain {
+        m = put_drop(item, out, m);
     }
     m
 }
 
 // The lines of a chain: releases if its drops free their extent, else unrefs.
-pub fn put_chain(
+fn put_chain(
     references: u64,
-    leaves: Leaves,
-    nexts: &[u32],
-    head: usize,
+    chain: Chain,
     unrefs: &mut [u64],
     releases: &mut [u64],
     at: DropCounts,
 ) -> DropCounts
-    requires { (p : InLeaf → Bool) × Chain p (leaves_of leaves) nexts.now head
-        × (at.unrefs + length (unref_lines references (keep p (leaves_of leaves))) < 2 ^ 64)
-        × (at.releases + length (release_lines references (keep p (leaves_of leaves))) < 2 ^ 64) }
-    ensures unrefs { (p : InLeaf → Bool) → Chain p (leaves_of leaves.entry) nexts.now head
-        → Laid ref_numbers 2 at.unrefs (unref_lines references (keep p (leaves_of leaves.entry))) unrefs.old result.unrefs unrefs.new }
-    ensures releases { (p : InLeaf → Bool) → Chain p (leaves_of leaves.entry) nexts.now head
-        → Laid ref_numbers 2 at.releases (release_lines references (keep p (leaves_of leaves.entry))) releases.old result.releases releases.new }
+    requires { (at.unrefs + length (unref_lines references (left chain)) < 2 ^ 64) × (at.releases + length (release_lines references (left chain)) < 2 ^ 64) }
+    ensures unrefs { Laid ref_numbers 2 at.unrefs (unref_lines references (left chain.entry)) unrefs.old result.unrefs unrefs.new }
+    ensures releases { Laid ref_numbers 2 at.releases (release_lines references (left chain.entry)) releases.old result.releases releases.new }
 {
-    if is_freed(references, leaves, nexts, head) {
-        let n = put_all(leaves, nexts, head, releases, at.releases);
+    if is_freed(references, chain) {
+        let n = put_all(chain, releases, at.releases);
         return DropCounts { releases: n, ..at };
     }
-    let n = put_all(leaves, nexts, head, unrefs, at.unrefs);
+    let n = put_all(chain, unrefs, at.unrefs);
     DropCounts { unrefs: n, ..at }
 }
 
 // ---- the chains of all rows
 
-// A range of rows with row k in it.
-fn widened(s: Range<usize>, k: usize) -> Range<usize>
-    requires { k + 1 < 2 ^ 64 }
-    ensures { result ≡ wider s k }
-{
-    s.start.min(k)..s.end.max(k + 1)
+// The number of each row's first drop, what stands at each drop, and a range with all rows that have one.
+#[derive(Drop)]
+pub struct Chains<'a> {
+    pub heads: &'a mut [u32],
+    pub nexts: &'a mut [u32],
+    pub span: Range<usize>,
 }
 
-// Item i put before the chain of its row, if it is dropped and has a row.
-pub fn link_item(
-    dropped: bool,
-    leaves: Leaves,
-    table: Table,
-    i: usize,
-    heads: &mut [u32],
-    nexts: &mut [u32],
-    range: Range<usize>,
-) -> Range<usize>
-    requires inside { i < length leaves.list.now / 70 }
-    requires linked { (p : Fields → Bool) × Linked p (rows table.numbers.now) (leaves_of leaves) (i + 1) heads.old nexts.old range }
-    ensures { (p : Fields → Bool) → dropped ≡ p (decode (drop (i * 70) leaves.entry.list.now)) → Linked p (rows table.entry.numbers.now) (leaves_of leaves.entry) (i + 1) heads.old nexts.old range
-        → Linked p (rows table.entry.numbers.now) (leaves_of leaves.entry) i heads.new nexts.new result }
-{
-    if !dropped {
-        return range;
+impl<'a> Chains<'a> {
+    // Item i put before the chain of its row, if it has one.
+    #[tactic(auto, using(table::proofs::Laws::found_below))]
+    pub fn link(&mut self, table: Table, item: Item, i: usize)
+        requires { (length (rows table.numbers.now) ≤ length self.old.heads.now) × (i < length self.old.nexts.now) × (i < 65536) }
+        ensures { links self.new ≡ linked (find (fields item).extent_start (rows table.entry.numbers.now)) i (links self.old) }
+    {
+        let Some((k, _)) = table.find_row(item.extent_start()) else {
+            return;
+        };
+        self.nexts[i] = self.heads[k];
+        self.heads[k] = (i + 1) as u32;
+        self.span = self.span.start.min(k)..self.span.end.max(k + 1);
     }
-    let item = item::item_at(leaves.list, i);
-    let Some((k, _)) = table.find_row(item.extent_start()) else {
-        return range;
-    };
-    nexts[i] = heads[k];
-    heads[k] = (i + 1) as u32;
-    widened(range, k)
-}
-
-// The lines of all rows of a range, by the chains of their drops. No row outside of it has a drop.
-pub fn put_rows(
-    leaves: Leaves,
-    table: Table,
-    heads: &[u32],
-    nexts: &[u32],
-    range: Range<usize>,
-    unrefs: &mut [u64],
-    releases: &mut [u64],
-    at: DropCounts,
-) -> DropCounts
-    requires { (p : Fields → Bool) × Linked p (rows table.numbers.now) (leaves_of leaves) 0 heads.now nexts.now range
-        × (at.unrefs + length (all_unrefs (rows table.numbers.now) (drops_by p (leaves_of leaves))) < 2 ^ 64)
-        × (at.releases + length (all_releases (rows table.numbers.now) (drops_by p (leaves_of leaves))) < 2 ^ 64) }
-    ensures unrefs { (p : Fields → Bool) → Linked p (rows table.entry.numbers.now) (leaves_of leaves.entry) 0 heads.now nexts.now range
-        → Laid ref_numbers 2 at.unrefs (all_unrefs (rows table.entry.numbers.now) (drops_by p (leaves_of leaves.entry))) unrefs.old result.unrefs unrefs.new }
-    ensures releases { (p : Fields → Bool) → Linked p (rows table.entry.numbers.now) (leaves_of leaves.entry) 0 heads.now nexts.now range
-        → Laid ref_numbers 2 at.releases (all_releases (rows table.entry.numbers.now) (drops_by p (leaves_of leaves.entry))) releases.old result.releases releases.new }
-{
-    let mut counts = at;
-    // k picks the row and the head of its chain.
-    for k in range.start..range.end {
-        let row = table::row_at(table.numbers, k);
-        let head = heads[k] as usize;
-        counts = put_chain(
-            row.references,
-            leaves,
-            nexts,
-            head,
-            unrefs,
-            releases,
-            counts,
-        );
+    // The lines of all rows, by the chains of their drops.
+    pub fn put_lines(
+        &self,
+        leaves: Leaves,
+        table: Table,
+        unrefs: &mut [u64],
+        releases: &mut [u64],
+        at: DropCounts,
+    ) -> DropCounts
+        requires { (p : Fields → Bool) × Linked p (rows table.numbers.now) (leaves_of leaves) 0 (links self.now)
+            × (at.unrefs + length (all_unrefs (rows table.numbers.now) (drops_by p (leaves_of leaves))) < 2 ^ 64)
+            × (at.releases + length (all_releases (rows table.numbers.now) (drops_by p (leaves_of leaves))) < 2 ^ 64) }
+        ensures unrefs { (p : Fields → Bool) → Linked p (rows table.entry.numbers.now) (leaves_of leaves.entry) 0 (links self.now)
+            → Laid ref_numbers 2 at.unrefs (all_unrefs (rows table.entry.numbers.now) (drops_by p (leaves_of leaves.entry))) unrefs.old result.unrefs unrefs.new }
+        ensures releases { (p : Fields → Bool) → Linked p (rows table.entry.numbers.now) (leaves_of leaves.entry) 0 (links self.now)
+            → Laid ref_numbers 2 at.releases (all_releases (rows table.entry.numbers.now) (drops_by p (leaves_of leaves.entry))) releases.old result.releases releases.new }
+    {
+        let mut counts = at;
+        // k picks the row and the head of its chain.
+        for k in self.span.start..self.span.end {
+            let row = table::row_at(table.numbers, k);
+            let number = self.heads[k] as usize;
+            let nexts = &self.nexts[..];
+            let chain = Chain {
+                leaves,
+                nexts,
+                number,
+            };
+            counts = put_chain(row.references, chain, unrefs, releases, counts);
+        }
+        counts
     }
-    counts
 }

@@ -16,13 +16,13 @@ ghost use Rattle.drop_lines.specs.Dropped.{taken, drops_in};
 ghost use Rattle.drop_lines.specs.Lent.{cut_drops};
 ghost use Rattle.drop_lines.specs.Raw.{due, item_due, drop_of, line_of, row_unrefs, row_releases};
 ghost use Rattle.drop_chains.specs.Counts.{Countable};
-ghost use Rattle.drop_chains.specs.Links.{Blank, Linked};
+ghost use Rattle.drop_chains.specs.Links.{links, Blank, Linked};
 
+use drop_chains::Chains;
 pub use drop_chains::DropCounts;
 use item::Item;
 use records::refusal::{Refusal, check};
 use ref_def::Leaves;
-use std::ops::Range;
 use table::{Row, Table};
 
 // The range that is cut, and the starts of two extents that are written in place (0: none), whose items are compared
@@ -189,41 +189,22 @@ fn put_plain(
 
 // ---- drops chained by row
 
-// The drops chained by row, in list order, as they are put in from the last to the first; the rows that have one.
-fn link(c: Cut, leaves: Leaves, table: Table, heads: &mut [u32], nexts: &mut [u32]) -> Range<usize>
-    requires { Blank (rows table.numbers.now) (leaves_of leaves) heads.old nexts.old }
-    ensures { Linked (taken c) (rows table.entry.numbers.now) (leaves_of leaves.entry) 0 heads.new nexts.new result }
+// The drops chained by row, in list order: they are put in from the last to the first, each before those behind it.
+fn link(c: Cut, leaves: Leaves, table: Table, chains: &mut Chains)
+    requires { Blank (rows table.numbers.now) (leaves_of leaves) (links chains.old) }
+    ensures { Linked (taken c) (rows table.entry.numbers.now) (leaves_of leaves.entry) 0 (links chains.new) }
 {
-    let mut span = table.numbers.len() / table::WIDTH..0;
+    // A reader goes forward alone.
     for i in (0..leaves.list.len() / item::RECORD).rev() {
-        let dropped = is_dropped(c, item::item_at(leaves.list, i));
-        span = drop_chains::link_item(dropped, leaves, table, i, heads, nexts, span);
+        let item = item::item_at(leaves.list, i);
+        if is_dropped(c, item) {
+            chains.link(table, item, i);
+        }
     }
-    span
 }
 
-// The lines of all rows: the drops are chained by row first, through arrays that are lent.
-fn put_linked(
-    c: Cut,
-    leaves: Leaves,
-    table: Table,
-    heads: &mut [u32],
-    nexts: &mut [u32],
-    unrefs: &mut [u64],
-    releases: &mut [u64],
-    at: DropCounts,
-) -> DropCounts
-    requires countable { Countable at (length (items leaves.list.now)) }
-    requires blank { Blank (rows table.numbers.now) (leaves_of leaves) heads.old nexts.old }
-    ensures unrefs { Laid ref_numbers 2 at.unrefs (all_unrefs (rows table.entry.numbers.now) (cut_drops c leaves.entry)) unrefs.old result.unrefs unrefs.new }
-    ensures releases { Laid ref_numbers 2 at.releases (all_releases (rows table.entry.numbers.now) (cut_drops c leaves.entry)) releases.old result.releases releases.new }
-{
-    let span = link(c, leaves, table, heads, nexts);
-    drop_chains::put_rows(leaves, table, heads, nexts, span, unrefs, releases, at)
-}
-
-// The lines of all rows, with arrays of a size that suffices. It is not built into its caller, so that a call with few rows does
-// not touch the half megabyte of stack that the largest arrays take.
+// The lines of all rows, by chains in arrays of a size that suffices. It is not built into its caller, so that a call with few rows
+// does not touch the half megabyte of stack that the largest arrays take.
 #[inline(never)]
 fn put_sized<const N: usize>(
     c: Cut,
@@ -240,9 +221,13 @@ fn put_sized<const N: usize>(
 {
     let mut heads = [0u32; N];
     let mut nexts = [0u32; N];
-    put_linked(
-        c, leaves, table, &mut heads, &mut nexts, unrefs, releases, at,
-    )
+    let mut chains = Chains {
+        heads: &mut heads,
+        nexts: &mut nexts,
+        span: table.numbers.len() / table::WIDTH..0,
+    };
+    link(c, leaves, table, &mut chains);
+    chains.put_lines(leaves, table, unrefs, releases, at)
 }
 
 // A line for each drop: a release if its extent is released, else an unref; each by extent start, then in list order.

@@ -5,9 +5,7 @@ use Rattle.plan_def.specs.Outputs.{ref_numbers}
 use Rattle.drop_chains.proofs.put_chain.Goals as goal
 
 pub returns-then-is_freed-clause-unrefs : goal.returns-then-is_freed-clause-unrefs
-returns-then-is_freed-clause-unrefs c = λ p q.
-    laid_same ref_numbers 2 _ _ _ _ _ _ (freed_unrefs c.args.references _ _ (c.is_freed.ensures p q) c.if-is_freed.true) (laid_none ref_numbers 2 _ _)
+returns-then-is_freed-clause-unrefs c = laid_same ref_numbers 2 _ _ _ _ _ _ (freed_unrefs c.args.references _ _ c.is_freed.ensures c.if-is_freed.true) (laid_none ref_numbers 2 _ _)
 
 pub returns-clause-releases : goal.returns-clause-releases
-returns-clause-releases c = λ p q.
-    laid_same ref_numbers 2 _ _ _ _ _ _ (held_releases c.args.references _ _ (c.is_freed.ensures p q) c.if-is_freed.false) (laid_none ref_numbers 2 _ _)
+returns-clause-releases c = laid_same ref_numbers 2 _ _ _ _ _ _ (held_releases c.args.references _ _ c.is_freed.ensures c.if-is_freed.false) (laid_none ref_numbers 2 _ _)

@@ -1,4 +1,6 @@
 use native.Mathlib.Omega.{arith}
+use mathlib.Core.Path.{ap}
+use Rattle.records.specs.Select.{keep}
 use Rattle.item.specs.Items.{items}
 use Rattle.item.proofs.Laws.{items-length}
 use Rattle.ref_def.specs.Lent.{leaves_of}
@@ -9,7 +11,7 @@ use Rattle.drop_lines.proofs.Tallies.{of_extent, tally_room, tally_skip, tally_h
 use Rattle.drop_lines.proofs.is_released.Goals as goal
 
 pub loop-item-init : goal.loop-item-init
-loop-item-init c = tally_first _ _ _ (cc)
+loop-item-init c = tally_first _ _ (ap (keep (of_extent c.args.c c.args.row.start)) (cc))
 
 pub overflow_add-drops : goal.overflow_add-drops
 overflow_add-drops c =

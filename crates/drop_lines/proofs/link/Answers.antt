@@ -1,14 +1,22 @@
 use native.Mathlib.Omega.{arith}
-use mathlib.Core.Path.{ap, ◌∙◌}
-use Rattle.item.specs.Items.{items}
-use Rattle.item.proofs.Laws.{item-decode, items-length}
-use Rattle.ref_def.proofs.Drops.{leaves-length}
-use Rattle.drop_chains.proofs.Links.{linked_first, linked_same}
+use Rattle.item.proofs.Laws.{items-length}
+use Rattle.drop_chains.proofs.Reading.{leaves_many}
+use Rattle.drop_chains.proofs.Links.{linked_first, turn_kept, turn_linked}
 use Rattle.drop_lines.specs.Dropped.{taken}
 use Rattle.drop_lines.proofs.link.Goals as goal
 
 pub loop-i-init : goal.loop-i-init
-loop-i-init c = linked_first (taken c.args.c) c.args.table.numbers.now _ _ _ _ c.requires (omega (arith, c.args.leaves.one_each, leaves-length (items c.args.leaves.list.now) c.args.leaves.shared.now c.args.leaves.one_each, items-length c.args.leaves.list.now))
+loop-i-init c = let l = c.args.leaves in linked_first (taken c.args.c) _ _ _ _ c.requires (omega (arith, leaves_many l, l.one_each, items-length l.list.now))
+
+pub link-requires : goal.link-requires
+link-requires c = let l = c.args.leaves in
+    let i = c.loop-i.invariant in
+    (i.row_room, omega (arith, c.loop-i-test.true, i.room, leaves_many l, l.one_each, items-length l.list.now, c.loop-i.auto), omega (arith, c.loop-i-test.true, i.few, leaves_many l, l.one_each, items-length l.list.now, c.loop-i.auto))
+
+pub loop-i-preserved-then-is_dropped : goal.loop-i-preserved-then-is_dropped
+loop-i-preserved-then-is_dropped c = let l = c.args.leaves in
+    turn_linked (taken c.args.c) c.args.table l _ _ _ (omega (arith, c.loop-i-test.true)) c.loop-i.invariant (omega (arith, c.loop-i-test.true, l.one_each, items-length l.list.now, c.loop-i.auto)) _ c.item_at-item.ensures _ c.is_dropped.ensures c.if-is_dropped.true _ c.link.ensures
 
 pub loop-i-preserved : goal.loop-i-preserved
-loop-i-preserved c = c.link_item-span.ensures (taken c.args.c) (c.is_dropped-dropped.ensures ∙ ap (taken c.args.c) (item-decode _ _ c.item_at.ensures)) (linked_same _ _ _ _ _ _ _ _ (omega (arith, c.loop-i-test.true)) c.loop-i.invariant)
+loop-i-preserved c = let l = c.args.leaves in
+    turn_kept (taken c.args.c) c.args.table l _ _ _ (omega (arith, c.loop-i-test.true)) c.loop-i.invariant (omega (arith, c.loop-i-test.true, l.one_each, items-length l.list.now, c.loop-i.auto)) _ c.item_at-item.ensures _ c.is_dropped.ensures c.if-is_dropped.false

@@ -1,0 +1,57 @@
+-- What a chain has left, at its end and at a drop. Assumes nothing.
+use mathlib.Core.Path.{◌≡◌, refl, ap, ◌∙◌, sym}
+use mathlib.Core.List.{List, [], ◌∷◌}
+use Prim.Native.Nat.{ℕ, zero, suc, ◌+◌, ◌-◌, ◌*◌, ◌<◌, ◌≤◌}
+use native.Mathlib.Omega.{arith}
+use lib.ListN.{length, get_or, drop}
+use Rattle.item.specs.declared.Item.{Item}
+use Rattle.item.specs.Items.{Fields, fields, item_of, items, decode}
+use Rattle.item.proofs.Laws.{item-decode, items-length, items_at}
+use Rattle.ref_def.specs.Drops.{InLeaf, in_leaves}
+use Rattle.ref_def.specs.Lent.{leaves_of}
+use Rattle.ref_def.specs.declared.Leaves.{Leaves}
+use Rattle.ref_def.proofs.Drops.{leaves-length}
+use Rattle.drop_chains.specs.declared.chain.Chain.{Chain}
+use Rattle.drop_chains.specs.Chains.{along}
+use Rattle.drop_chains.specs.Reading.{leaf, left}
+use Rattle.drop_chains.proofs.Walks.{along_nil, along_at, along_few}
+
+-- how many items there are
+pub leaves_many : (l : Leaves) → length (leaves_of l) ≡ length l.shared.now
+leaves_many l = leaves-length (items l.list.now) l.shared.now l.one_each ∙ sym l.one_each
+
+-- the item at index i, with its byte
+leaves_at : (fs : List Fields) (bs : List ℕ) (i : ℕ) (e : InLeaf) → length bs ≡ length fs → i < length fs → get_or (in_leaves fs bs) i e ≡ record { item = get_or fs i e.item; shared = get_or bs i 0 }
+unfolding in_leaves
+leaves_at [] bs i e l h = absurd (omega arith)
+leaves_at (f ∷ fs) [] i e l h = absurd (omega arith)
+leaves_at (f ∷ fs) (b ∷ bs) zero e l h = refl
+leaves_at (f ∷ fs) (b ∷ bs) (suc i) e l h = leaves_at fs bs i e (omega arith) (omega arith)
+
+pub leaves_here : (l : Leaves) (i : ℕ) (e : InLeaf) (item : Item) → i < length l.shared.now → item ≡ item_of (drop (i * 70) l.list.now)
+    → get_or (leaves_of l) i e ≡ record { item = fields item; shared = get_or l.shared.now i 0 }
+leaves_here l i e item h q =
+    leaves_at (items l.list.now) l.shared.now i e l.one_each (omega (arith, l.one_each))
+    ∙ ap (λ (x : Fields). record { item = x; shared = get_or l.shared.now i 0 }) (items_at l.list.now i e.item (omega (arith, l.one_each, items-length l.list.now)) ∙ sym (item-decode item _ q))
+
+-- what stands for an item past the end
+abbrev no_leaf : InLeaf
+no_leaf = record { item = decode []; shared = 0 }
+
+pub left_few : (c : Chain) → length (left c) ≤ length c.leaves.shared.now
+left_few c = omega (arith, along_few c.nexts.now (leaves_of c.leaves) 0 c.number, leaves_many c.leaves)
+
+pub left_none : (c : Chain) → c.number ≡ 0 → left c ≡ []
+left_none c e = rw e (along_nil c.nexts.now (leaves_of c.leaves) 0)
+
+module _ (c : Chain) (n : c.number ≡ 0 → ⊥) where
+  pub number_in : c.number - 1 < length c.leaves.shared.now
+  number_in = omega (arith, (c.inside n).1)
+
+  pub left_more : (item : Item) → item ≡ item_of (drop ((c.number - 1) * 70) c.leaves.list.now)
+      → left c ≡ leaf (item, get_or c.leaves.shared.now (c.number - 1) 0) ∷ along c.nexts.now 0 (get_or c.nexts.now (c.number - 1) 0) (leaves_of c.leaves)
+  left_more item e =
+      let here : c.number - 1 + 1 ≡ c.number = omega arith in
+      ap (λ (h : ℕ). along c.nexts.now 0 h (leaves_of c.leaves)) (sym here)
+      ∙ along_at c.nexts.now (leaves_of c.leaves) (length c.leaves.shared.now) (c.number - 1) no_leaf (omega (arith, number_in, leaves_many c.leaves)) (c.onward (c.number - 1) number_in)
+      ∙ ap (λ (d : InLeaf). d ∷ along c.nexts.now 0 (get_or c.nexts.now (c.number - 1) 0) (leaves_of c.leaves)) (leaves_here c.leaves (c.number - 1) no_leaf item number_in e)
