@@ -6,12 +6,13 @@ ghost use Rattle.std.specs.List.{prefix_len};
 ghost use Rattle.records.specs.Lent.{old, new};
 ghost use Rattle.read_order.specs.Few.{Few};
 ghost use Rattle.read_order.specs.Numbers.{numbers};
-ghost use Rattle.read_store.specs.Storing.{buffers};
+ghost use Rattle.read_store.specs.Store.{buffers_in, Same};
 ghost use Rattle.read_input.specs.Split.{line_length};
 ghost use Rattle.read_input.specs.Input.{read_input};
 ghost use Rattle.read_input.specs.Raw.{TakesLine, ReadsIn};
 
 use read_order::Read;
+use read_store::Store;
 
 // How long the first line is: to its LF, or to the text's end.
 fn line_length(s: &[u8]) -> usize
@@ -30,40 +31,30 @@ fn first_line(s: &[u8]) -> (&[u8], &[u8])
 }
 
 // One line taken; where no right input goes on with it, its number.
-fn take_next(
-    read: Read,
-    line: &[u8],
-    items: &mut [u8],
-    shared: &mut [u8],
-    table: &mut [u64],
-    places: &mut [u64],
-) -> Result<Read, usize>
+#[tactic(auto, using(crate::proofs::Whole::unread))]
+fn take_next(read: Read, line: &[u8], store: &mut Store) -> Result<Read, usize>
     requires { Few (numbers read) 65537 }
-    ensures { TakesLine read line.now (buffers items.old shared.old table.old places.old) result (buffers items.new shared.new table.new places.new) }
+    ensures taken { TakesLine read line.now (buffers_in store.old) result (buffers_in store.new) }
+    ensures same { Same store.old store.new }
 {
     let Some(form) = read_line::read_line(line) else {
         return Err(read.line);
     };
-    read_store::take_line(read, form, items, shared, table, places).ok_or(read.line)
+    read_store::take_line(read, form, store).ok_or(read.line)
 }
 
 // What an input says: its numbers, and in the buffers its items, the source's behind the file's, their shared bytes, the
 // extents and the places. Where a line is at fault, its number; the buffers have what was read before it.
-pub fn read_input(
-    input: &[u8],
-    items: &mut [u8],
-    shared: &mut [u8],
-    table: &mut [u64],
-    places: &mut [u64],
-) -> Result<Read, usize>
+pub fn read_input(input: &[u8], store: &mut Store) -> Result<Read, usize>
     requires { length input.now ≤ 65536 }
-    ensures { ReadsIn (read_input input.now) (buffers items.old shared.old table.old places.old) result (buffers items.new shared.new table.new places.new) }
+    ensures reads { ReadsIn (read_input input.now) (buffers_in store.old) result (buffers_in store.new) }
+    ensures same { Same store.old store.new }
 {
     let mut read = read_order::begin();
     let mut rest = input;
     while !rest.is_empty() {
         let (line, behind) = first_line(rest);
-        read = take_next(read, line, items, shared, table, places)?;
+        read = take_next(read, line, store)?;
         rest = behind;
     }
     Ok(read)
