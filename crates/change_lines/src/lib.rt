@@ -1,25 +1,28 @@
-// `change_range` in code: the lines of a change for each output, read off the list and the segment beside it.
+// `change_range` in code: the lines of a change for each output, read off the list with its segment made anew.
 #![tactic(auto)]
 
-ghost use Rattle.std.specs.Prelude.{true, map, option_to_list, ◌≡◌, ◌+◌, ◌-◌, ◌*◌, ◌<◌, ◌≤◌, ◌^◌, length, take, drop};
+ghost use Rattle.std.specs.Prelude.{true, map, option_to_list, ◌≡◌, ◌++◌, ◌+◌, ◌<◌, ◌^◌, length};
 ghost use Rattle.records.specs.Lent.{old, new};
 ghost use Rattle.item.specs.Items.{items};
-ghost use Rattle.table.specs.Rows.{rows, table_kept};
+ghost use Rattle.table.specs.Rows.{rows};
 ghost use Rattle.records.specs.Stages.{pairs};
 ghost use Rattle.lists.specs.Lists.{rises};
-ghost use Rattle.cut_def.specs.Pieces.{built, items_of, insert_all, counted_bytes};
+ghost use Rattle.cut_def.specs.Pieces.{built, items_of, insert_all};
 ghost use Rattle.edit_lines.specs.Pieced.{piece_items};
 ghost use Rattle.cut_def.specs.Edits.{edits};
-ghost use Rattle.cut_segment.specs.Segments.{segment_of, Good, Runs};
+ghost use Rattle.cut_segment.specs.Remade.{taken_of, made_of};
+ghost use Rattle.ref_def.specs.Drops.{releases as all_releases, unrefs as all_unrefs};
+ghost use Rattle.drop_lines.specs.Dropped.{drops_in};
 ghost use Rattle.plan_def.specs.Outputs.{edit_bytes, ref_numbers, write_numbers};
 ghost use Rattle.plan_lines.specs.Lines.{Laid};
 ghost use Rattle.change_rewrites.specs.Raw.{Writable, write_of};
-ghost use Rattle.change_segment.specs.Sides.{sides, write_at, writes_of, middle, cut_of, compared_of, shares_of, unrefs_of, bytes_of};
+ghost use Rattle.change_segment.specs.Sides.{sides, write_at, writes_of, cut_of, compared_of, shares_of, bytes_of};
 
 use change_def::{RangeChange, Rewrite};
-use change_segment::{Parts, back_new, front_new};
-use cut_segment::Segment;
-use drop_lines::Cut;
+use change_segment::{Parts, Places, back_new, front_new};
+use cut_segment::{Remade, RunningLeaves};
+use drop_lines::{Cut, DropCounts};
+use table::Table;
 
 // ---- writes
 
@@ -44,13 +47,13 @@ fn put_writes_in_place(p: Parts, out: &mut [u64]) -> usize
 }
 
 // The writes of a plan: those in place first.
-pub fn put_writes(c: RangeChange, p: Parts, x: u64, y: u64, out: &mut [u64]) -> usize
+pub fn put_writes(c: RangeChange, p: Parts, at: Places, out: &mut [u64]) -> usize
     requires { Writable p.front × Writable p.back }
-    ensures { Laid write_numbers 4 0 (writes_of c p x y) out.old result out.new }
+    ensures { Laid write_numbers 4 0 (writes_of c p at.front at.back) out.old result out.new }
 {
     let n = put_writes_in_place(p, out);
-    let m = put_new_write(front_new(c, p), x, out, n);
-    put_new_write(back_new(c, p), y, out, m)
+    let m = put_new_write(front_new(c, p), at.front, out, n);
+    put_new_write(back_new(c, p), at.back, out, m)
 }
 
 // ---- shares, unrefs and releases
@@ -68,100 +71,63 @@ pub fn cut_of(c: RangeChange, p: Parts) -> Cut
 }
 
 // The references of the extents written in place that there are more of after the change than before.
-pub fn put_more(k: Cut, list: &[u8], seg: &[u8], s: Segment, out: &mut [u64], n: usize) -> usize
-    requires { Good list.now s seg.now × (n + s.count < 2 ^ 64) }
-    ensures { Laid ref_numbers 2 n (compared_of k (middle (items list.now) s) (segment_of s seg.now)) out.old result out.new }
+pub fn put_more(k: Cut, m: Remade, out: &mut [u64], n: usize) -> usize
+    requires { n + m.segment.count < 2 ^ 64 }
+    ensures { Laid ref_numbers 2 n (compared_of k (taken_of m.entry) (made_of m.entry)) out.old result out.new }
 {
-    let from = s.from * item::RECORD;
-    let to = s.to * item::RECORD;
-    let end = s.count * item::RECORD;
-    ref_compare::put_compared(&seg[0..end], &list[from..to], k.one, k.two, out, n)
+    ref_compare::put_compared(m.made(), m.taken(), k.one, k.two, out, n)
 }
 
 // Those that there are fewer of.
-fn put_fewer(k: Cut, list: &[u8], seg: &[u8], s: Segment, out: &mut [u64], n: usize) -> usize
-    requires { Good list.now s seg.now × (n + length (items list.now) < 2 ^ 64) }
-    ensures { Laid ref_numbers 2 n (compared_of k (segment_of s seg.now) (middle (items list.now) s)) out.old result out.new }
+fn put_fewer(k: Cut, m: Remade, out: &mut [u64]) -> usize
+    ensures { Laid ref_numbers 2 0 (compared_of k (made_of m.entry) (taken_of m.entry)) out.old result out.new }
 {
-    let from = s.from * item::RECORD;
-    let to = s.to * item::RECORD;
-    let end = s.count * item::RECORD;
-    ref_compare::put_compared(&list[from..to], &seg[0..end], k.one, k.two, out, n)
+    ref_compare::put_compared(m.taken(), m.made(), k.one, k.two, out, 0)
 }
 
 // The shares of a plan: splits, then the references that there are more of.
-pub fn put_shares(k: Cut, list: &[u8], seg: &[u8], s: Segment, out: &mut [u64]) -> usize
-    requires { Good list.now s seg.now × (length (items list.now) ≤ 65536) × (s.count ≤ 4) × Runs 0 (items list.now) }
-    ensures { Laid ref_numbers 2 0 (shares_of k (items list.now) s (segment_of s seg.now)) out.old result out.new }
+pub fn put_shares(k: Cut, m: Remade, out: &mut [u64]) -> usize
+    ensures { Laid ref_numbers 2 0 (shares_of k (items m.entry.list.records.now) m.entry.segment (made_of m.entry)) out.old result out.new }
 {
-    let n = cut_touched::put_splits(k, list, out, 0);
-    put_more(k, list, seg, s, out, n)
+    let n = cut_touched::put_splits(k, m.list, out, 0);
+    put_more(k, m, out, n)
 }
 
-// The unrefs of a plan: the references that there are fewer of, then the drops that release nothing.
-pub fn put_unrefs(
+// The unrefs of a plan: the references that there are fewer of, then the drops that release nothing; and its releases.
+pub fn put_drops(
     k: Cut,
-    list: &[u8],
-    shared: &[u8],
-    table: &[u64],
-    seg: &[u8],
-    s: Segment,
-    out: &mut [u64],
-) -> usize
-    requires { Good list.now s seg.now × (length (items list.now) ≤ 65536) × (table_kept (rows table.now) ≡ true) × (length shared.now ≡ length (items list.now)) × Runs 0 (items list.now) }
-    ensures { Laid ref_numbers 2 0 (unrefs_of k (rows table.now) (items list.now) shared.now s (segment_of s seg.now)) out.old result out.new }
+    m: Remade,
+    leaves: RunningLeaves,
+    table: Table,
+    unrefs: &mut [u64],
+    releases: &mut [u64],
+) -> DropCounts
+    ensures unrefs { Laid ref_numbers 2 0 (compared_of k (made_of m.entry) (taken_of m.entry) ++ all_unrefs (rows table.entry.numbers.now) (drops_in k (items leaves.entry.list.records.now) leaves.entry.shared.now)) unrefs.old result.unrefs unrefs.new }
+    ensures releases { Laid ref_numbers 2 0 (all_releases (rows table.entry.numbers.now) (drops_in k (items leaves.entry.list.records.now) leaves.entry.shared.now)) releases.old result.releases releases.new }
 {
-    let n = put_fewer(k, list, seg, s, out, 0);
-    cut_touched::put_drops(k, false, list, shared, table, out, n)
+    let at = DropCounts {
+        unrefs: put_fewer(k, m, unrefs),
+        releases: 0,
+    };
+    cut_touched::put_drops(k, leaves, table, unrefs, releases, at)
 }
 
 // ---- edits and bytes
 
 // The edits of a plan, with new pieces among them: adds, three numbers each.
-pub fn put_changes(
-    file: u64,
-    generation: u64,
-    list: &[u8],
-    seg: &[u8],
-    s: Segment,
-    pieces: &[u64],
-    out: &mut [u8],
-) -> usize
-    requires { Good list.now s seg.now × (pairs rises (middle (items list.now) s) ≡ true)
-        × (pairs rises (piece_items file generation pieces.now) ≡ true)
-        × (pairs rises (items_of (insert_all (piece_items file generation pieces.now) (map built (segment_of s seg.now)))) ≡ true)
-        × (length (items list.now) ≤ 65536) × (s.count ≤ 6) }
-    ensures { Laid (edit_bytes file) 71 0 (edits (middle (items list.now) s) (insert_all (piece_items file generation pieces.now) (map built (segment_of s seg.now)))) out.old result out.new }
+pub fn put_changes(m: Remade, file: u64, generation: u64, pieces: &[u64], out: &mut [u8]) -> usize
+    requires { (pairs rises (piece_items file generation pieces.now) ≡ true)
+        × (pairs rises (items_of (insert_all (piece_items file generation pieces.now) (map built (made_of m)))) ≡ true) }
+    ensures { Laid (edit_bytes file) 71 0 (edits (taken_of m.entry) (insert_all (piece_items file generation pieces.now) (map built (made_of m.entry)))) out.old result out.new }
 {
-    let from = s.from * item::RECORD;
-    let to = s.to * item::RECORD;
-    let end = s.count * item::RECORD;
-    edit_lines::put_edits(
-        &list[from..to],
-        &seg[0..end],
-        pieces,
-        file,
-        generation,
-        out,
-        0,
-    )
-}
-
-// The bytes that records from..to of a list count.
-fn bytes_in(list: &[u8], from: usize, to: usize) -> u64
-    requires { (from ≤ to) × (to ≤ length (items list.now)) × (counted_bytes (take (to - from) (drop from (items list.now))) < 2 ^ 64) }
-    ensures { result ≡ counted_bytes (take (to - from) (drop from (items list.now))) }
-{
-    let a = from * item::RECORD;
-    let b = to * item::RECORD;
-    cut_splits::counted_bytes(&list[a..b])
+    edit_lines::put_edits(m.taken(), m.made(), pieces, file, generation, out, 0)
 }
 
 // The bytes that the file's items count after the change.
-pub fn bytes_after(list: &[u8], seg: &[u8], s: Segment) -> u64
-    requires { Good list.now s seg.now × (bytes_of (items list.now) s (segment_of s seg.now) < 2 ^ 64) }
-    ensures { result ≡ bytes_of (items list.now) s (segment_of s seg.now) }
+pub fn bytes_after(m: Remade) -> u64
+    requires { bytes_of (items m.list.records.now) m.segment (made_of m) < 2 ^ 64 }
+    ensures { result ≡ bytes_of (items m.entry.list.records.now) m.entry.segment (made_of m.entry) }
 {
-    bytes_in(list, 0, s.from)
-        + (bytes_in(seg, 0, s.count) + bytes_in(list, s.to, list.len() / item::RECORD))
+    cut_splits::counted_bytes(m.before())
+        + (cut_splits::counted_bytes(m.made()) + cut_splits::counted_bytes(m.behind()))
 }
