@@ -1,13 +1,22 @@
--- The loop of the byte count: what is left, with its next item and without one. Assumes nothing.
-use Rattle.std.proofs.Common.{◌≡◌, ◌+◌, List, [], ◌∷◌, ap}
-use Rattle.item.specs.Items.{Fields}
+-- The byte count as the sum of a chain: of the items that are no holes, their lengths. Assumes nothing.
+use Rattle.std.proofs.Common.{◌≡◌, ℕ, List, [], ◌∷◌, Bool, true, false, cond, not, ◌+◌, refl}
+use Rattle.std.proofs.lemmas.List.Sums.{sum_by-cons}
+use native.Mathlib.Omega.{arith}
+use Rattle.std.specs.List.{filter, sum_by}
+use Rattle.item.specs.Items.{Fields, hole}
 use Rattle.cut_def.specs.Pieces.{counted_bytes}
-use Rattle.cut_splits.specs.Splits.{counted}
 
-pub bytes_next : (l : List Fields) (f : Fields) (l' : List Fields) → l ≡ f ∷ l' → counted_bytes l ≡ counted f + counted_bytes l'
-unfolding counted_bytes
-bytes_next l f l' e = ap counted_bytes e
+abbrev pub stored : Fields → Bool
+stored f = not (hole f)
 
-pub bytes_none : (l : List Fields) → l ≡ [] → counted_bytes l ≡ 0
+abbrev pub bytes : Fields → ℕ
+bytes f = f.length
+
+pub counted_sum : (fs : List Fields) → counted_bytes fs ≡ sum_by bytes (filter stored fs)
 unfolding counted_bytes
-bytes_none l e = ap counted_bytes e
+counted_sum [] = refl
+counted_sum (f ∷ fs) = go (hole f) (counted_sum fs)
+  where
+    go : (b : Bool) → counted_bytes fs ≡ sum_by bytes (filter stored fs) → cond b 0 f.length + counted_bytes fs ≡ sum_by bytes (cond (not b) (f ∷ filter stored fs) (filter stored fs))
+    go true e = omega (arith, e)
+    go false e = omega (arith, e, sum_by-cons bytes f (filter stored fs))

@@ -1,7 +1,7 @@
--- For the code only: what one record adds: to the refusals of a cut's splits, to their shares, and to the byte count.
+-- For the code only: what one record adds: to the refusals of a cut's splits, and to their shares.
 use Rattle.std.specs.Prelude.{Bool, cond, ◌&&◌, not, List, [], ◌∷◌, ℕ, eqb}
 use Rattle.records.specs.Select.{only, any}
-use Rattle.item.specs.Items.{Fields, hole}
+use Rattle.item.specs.Items.{Fields}
 use Rattle.cut_def.specs.Cuts.{split}
 use Rattle.cut_def.specs.Refs.{Ref, ref_of}
 use Rattle.table.specs.Rows.{one_more_reference}
@@ -22,7 +22,3 @@ shared lo hi one two f = split lo hi f && elsewhere (one ∷ two ∷ []) (ref_of
 -- its share
 abbrev pub split_share : (lo hi one two : ℕ) → Fields → List Ref
 split_share lo hi one two f = only (shared lo hi one two f) (ref_of f)
-
--- an item's bytes in the byte count
-abbrev pub counted : Fields → ℕ
-counted f = cond (hole f) 0 f.length

@@ -13,7 +13,7 @@ ghost use Rattle.cut_def.specs.Pieces.{counted_bytes};
 ghost use Rattle.cut_def.specs.Refs.{Ref, ref_of};
 ghost use Rattle.plan_def.specs.Outputs.{ref_numbers};
 ghost use Rattle.plan_lines.specs.Lines.{Laid};
-ghost use Rattle.cut_splits.specs.Splits.{split_refusal, elsewhere, shared, split_share, counted};
+ghost use Rattle.cut_splits.specs.Splits.{split_refusal, elsewhere, shared, split_share};
 
 use drop_lines::Cut;
 use item::Item;
@@ -75,24 +75,13 @@ pub fn put_splits(k: Cut, list: &[u8], out: &mut [u64], n: usize) -> usize
 
 // ---- the byte count
 
-fn counted(item: Item) -> u64
-    ensures { result ≡ counted (fields item) }
-{
-    if cut_def::is_hole(item) {
-        0
-    } else {
-        item.length()
-    }
-}
-
 // The lengths of the items that are no holes.
 pub fn counted_bytes(list: &[u8]) -> u64
     requires { counted_bytes (items list.now) < 2 ^ 64 }
     ensures { result ≡ counted_bytes (items list.now) }
 {
-    let mut sum: u64 = 0;
-    for item in item::items(list) {
-        sum += counted(item);
-    }
-    sum
+    item::items(list)
+        .filter(|item| !cut_def::is_hole(*item))
+        .map(|item| item.length())
+        .sum()
 }
