@@ -1,13 +1,13 @@
 -- A plan that has room lies in the outputs as it should. Assumes nothing.
 use mathlib.Core.Path.{◌≡◌, refl, ◌∙◌}
-use mathlib.Core.Bool.{Bool, true, ◌&&◌}
+use mathlib.Core.Bool.{true}
 use Prim.Native.Nat.{ℕ, ◌/◌, ◌≤◌}
 use native.Mathlib.Omega.{arith}
-use lib.Dec.{leb}
+use Rattle.std.proofs.lemmas.Bool.Decides.{nat_tests}
 use lib.ListN.{length}
-use borrow.Author.Tests.{leb-true}
-use Rattle.records.proofs.Tests.{both_left, both_right}
-use Rattle.request.specs.declared.Answer.TheVariants.{Nothing, Refused}
+use Rattle.std.specs.Prelude.{None, Ok, Err}
+use Rattle.records.specs.declared.refusal.Refusal.{Refusal}
+use Rattle.records.specs.Refusals.{number}
 use Rattle.request.specs.Answers.{Outcome, plan, nothing, refused}
 use Rattle.plan_def.specs.Plans.{Plan}
 use Rattle.plan_def.specs.Outputs.{Outs, rooms_of, room_for, left, MetWith, edit_bytes, ref_numbers, add_numbers, write_numbers}
@@ -26,23 +26,13 @@ pub record Fitting (o : Outs) (p : Plan) : Type 0 where
 
 pub fitting : (o : Outs) (p : Plan) → room_for (rooms_of o) p ≡ true → Fitting o p
 fitting o p h =
-    let b1 : Bool = leb (length p.edits) (length o.edits / 71) in
-    let b2 : Bool = leb (length p.shares) (length o.shares / 2) in
-    let b3 : Bool = leb (length p.unrefs) (length o.unrefs / 2) in
-    let b4 : Bool = leb (length p.releases) (length o.releases / 2) in
-    let b5 : Bool = leb (length p.adds) (length o.adds / 3) in
-    let b6 : Bool = leb (length p.writes) (length o.writes / 4) in
-    let h2 = both_right b1 (b2 && (b3 && (b4 && (b5 && b6)))) h in
-    let h3 = both_right b2 (b3 && (b4 && (b5 && b6))) h2 in
-    let h4 = both_right b3 (b4 && (b5 && b6)) h3 in
-    let h5 = both_right b4 (b5 && b6) h4 in
     record {
-      edits = leb-true _ _ (both_left b1 (b2 && (b3 && (b4 && (b5 && b6)))) h);
-      shares = leb-true _ _ (both_left b2 (b3 && (b4 && (b5 && b6))) h2);
-      unrefs = leb-true _ _ (both_left b3 (b4 && (b5 && b6)) h3);
-      releases = leb-true _ _ (both_left b4 (b5 && b6) h4);
-      adds = leb-true _ _ (both_left b5 b6 h5);
-      writes = leb-true _ _ (both_right b5 b6 h5);
+      edits = grind (arith, nat_tests);
+      shares = grind (arith, nat_tests);
+      unrefs = grind (arith, nat_tests);
+      releases = grind (arith, nat_tests);
+      adds = grind (arith, nat_tests);
+      writes = grind (arith, nat_tests);
     }
 
 -- a plan laid over the outputs lies there from their start
@@ -65,8 +55,8 @@ outputs-laid file p before after h l1 l2 l3 l4 l5 l6 =
     let e6 = l6 ∙ lay-put write_numbers 4 (omega arith) (λ r. refl) 0 p.writes before.writes (omega (arith, t.writes)) in
     λ i. record { edits = e1 i; shares = e2 i; unrefs = e3 i; releases = e4 i; adds = e5 i; writes = e6 i }
 
-pub met-refused : (file why : ℕ) (o : Outcome Plan) (before : Outs) → o ≡ refused why → MetWith file o (Refused why) before before
-met-refused file why o before e = rw e (record { answer = refl; outputs = refl })
+pub met-refused : (file : ℕ) (r : Refusal) (o : Outcome Plan) (before : Outs) → o ≡ refused (number r) → MetWith file o (Err r) before before
+met-refused file r o before e = rw e (record { answer = refl; outputs = refl })
 
-pub met-nothing : (file : ℕ) (o : Outcome Plan) (before : Outs) → o ≡ nothing → MetWith file o Nothing before before
+pub met-nothing : (file : ℕ) (o : Outcome Plan) (before : Outs) → o ≡ nothing → MetWith file o (Ok None) before before
 met-nothing file o before e = rw e (record { answer = refl; outputs = refl })

@@ -1,53 +1,48 @@
 -- For the code only: a plan laid over the outputs of a call, as far as each has room for it.
-use Rattle.std.specs.Prelude.{true, List, ◌≡◌, ℕ, ◌+◌, ◌<◌, ◌≤◌, ◌^◌, length}
-use denote.Triple.Both.{Both}
+use Rattle.std.specs.Prelude.{true, List, ◌≡◌, ℕ, ◌+◌}
 use Rattle.records.specs.Stages.{every, pairs}
-use Rattle.item.specs.Items.{Fields, items}
+use Rattle.item.specs.Items.{Fields}
 use Rattle.lists.specs.Lists.{rises}
 use Rattle.cut_def.specs.Pieces.{Piece, insert_all}
 use Rattle.cut_def.specs.Edits.{Edit, edits}
 use Rattle.cut_def.proofs.Inserts.{fresh}
 use Rattle.edit_lines.specs.Pieced.{piece_items}
-use Rattle.ref_def.specs.Drops.{in_leaves}
-use Rattle.request.specs.declared.Volume.{Volume}
-use Rattle.request.specs.declared.File.{File}
 use Rattle.plan_def.specs.Plans.{Plan}
 use Rattle.plan_def.specs.Outputs.{Outs, edit_bytes, ref_numbers, write_numbers}
 use Rattle.plan_lines.specs.Lines.{Laid}
-use Rattle.change_def.specs.declared.RangeChange.{RangeChange}
-use Rattle.change_def.specs.Changes.{pieces_after, plan_of}
+use Rattle.change_def.specs.Changes.{Change, pieces_after, plan_of}
 use Rattle.change_def.specs.Raw.{change_of}
-use Rattle.change_def.specs.Rewrites.{leaf_items}
+use Rattle.change_def.specs.Rewrites.{Ground, leaf_items}
 use Rattle.change_def.specs.Preallocs.{piece_limit}
-use Rattle.change_def.proofs.Fair.{Fair}
-use Rattle.change_rewrites.specs.Raw.{lent_ground}
-use Rattle.change_segment.specs.declared.Parts.{Parts}
-use Rattle.change_segment.specs.Raw.{Parting}
+use Rattle.change_ground.specs.Lent.{leaves_in, ground}
+use Rattle.change_segment.specs.declared.Places.{Places}
 use Rattle.change_segment.specs.Sides.{places_at}
+use Rattle.change_lay.specs.declared.Begun.{Begun}
 use Rattle.change_lay.specs.declared.RefCounts.{RefCounts}
 use Rattle.change_lay.specs.declared.Edited.{Edited}
 use Rattle.change_lay.specs.declared.Counts.{Counts}
 
--- a change of a file that passed its checks, with its sectors found, and a generation to come
-pub record Started (v : Volume) (f : File) (c : RangeChange) (p : Parts) (list shared table : List ℕ) : Type 0 where
-  pub fair : Fair (lent_ground v f list shared table) (change_of c f.size)
-  pub part : Parting (in_leaves (items list) shared) c p
-  pub shares : length shared ≡ length (items list)
-  pub sized : length (items list) ≤ 65536
-  pub generation : v.generation + 1 < 2 ^ 64
+-- what the definitions call its ground and the change
+abbrev pub ground_of : Begun → Ground
+ground_of b = ground b.base
 
--- the plan of such a change, x the place of the front sector and y of the back one, where each takes one
-abbrev pub plan_at : Volume → File → RangeChange → Parts → (list shared table : List ℕ) → (x y : ℕ) → Plan
-plan_at v f c p list shared table x y = plan_of (lent_ground v f list shared table) (change_of c f.size) piece_limit (places_at c p x y)
+abbrev pub change_in : Begun → Change
+change_in b = change_of b.range b.base.file.size
+
+-- the plan of such a change, its two sectors at these places, where they take new extents
+abbrev pub plan_at : Begun → Places → Plan
+plan_at b at = plan_of (ground_of b) (change_in b) piece_limit (places_at b.range b.parts at.front at.back)
 
 -- the file's items of that plan, but for the pieces of holes
-abbrev pub after_at : Volume → File → RangeChange → Parts → (list shared table : List ℕ) → (x y : ℕ) → List Piece
-after_at v f c p list shared table x y = pieces_after (lent_ground v f list shared table) (change_of c f.size) piece_limit (places_at c p x y)
+abbrev pub after_at : Begun → Places → List Piece
+after_at b at = pieces_after (ground_of b) (change_in b) piece_limit (places_at b.range b.parts at.front at.back)
 
--- the edits with the pieces of holes among them, whose adds are these numbers
-abbrev pub edits_at : Volume → File → RangeChange → Parts → (list shared table : List ℕ) → (x y : ℕ) → (pieces : List ℕ) → List Edit
-edits_at v f c p list shared table x y pieces =
-    edits (leaf_items (in_leaves (items list) shared)) (insert_all (piece_items f.number (v.generation + 1) pieces) (after_at v f c p list shared table x y))
+-- the items of pieces of holes whose adds are these numbers, and the edits with them among the items
+abbrev pub new_pieces : Begun → (numbers : List ℕ) → List Fields
+new_pieces b numbers = piece_items b.base.file.number (b.base.volume.generation + 1) numbers
+
+abbrev pub edits_at : Begun → Places → (pieces : List ℕ) → List Edit
+edits_at b at pieces = edits (leaf_items (leaves_in b.base)) (insert_all (new_pieces b pieces) (after_at b at))
 
 -- items that rise, with keys that neither of two lists has
 pub record Pieced (before after ys : List Fields) : Type 0 where
@@ -71,6 +66,4 @@ pub record PlanLaid (file : ℕ) (plan : Plan) (es : List Edit) (n : Counts) (be
   pub refs : RefsLaid plan n.refs before.shares before.unrefs before.releases after.shares after.unrefs after.releases
   pub edits : EditsLaid file es plan.bytes n.edits before.edits after.edits
   pub writes : Laid write_numbers 4 0 plan.writes before.writes n.writes after.writes
-
-abbrev pub PlanLaidIn : (file : ℕ) → Plan → List Edit → Counts → Both Outs Outs → Type 0
-PlanLaidIn file plan es n o = PlanLaid file plan es n o.entry o.exit
+  pub adds : after.adds ≡ before.adds

@@ -1,21 +1,38 @@
 // A plan laid over the outputs of a call, as far as each has room: with outputs of no length it is only counted.
 #![tactic(auto)]
 
-ghost use Rattle.std.specs.Prelude.{◌≡◌, [], ◌+◌};
+ghost use Rattle.std.specs.Prelude.{◌≡◌, ◌+◌, ◌<◌, ◌≤◌, ◌^◌, length, slice_range};
 ghost use Rattle.records.specs.Lent.{old, new};
 ghost use Rattle.records.specs.Stages.{stage};
-ghost use Rattle.item.specs.Items.{items};
-ghost use Rattle.cut_def.specs.Pieces.{items_of};
-ghost use Rattle.edit_lines.specs.Pieced.{piece_items};
-ghost use Rattle.plan_def.specs.Outputs.{five};
 ghost use Rattle.change_def.specs.Rewrites.{rewrite_refusal};
 ghost use Rattle.change_def.specs.Raw.{change_of};
-ghost use Rattle.change_rewrites.specs.Raw.{lent_ground};
-ghost use Rattle.change_lay.specs.Laid.{Started, Pieced, plan_at, after_at, edits_at, RefsLaid, EditsLaid, PlanLaidIn};
+ghost use Rattle.change_def.proofs.Fair.{Fair};
+ghost use Rattle.change_ground.specs.Lent.{ground, leaves_in};
+ghost use Rattle.change_segment.specs.Raw.{Parting};
 
 use change_def::RangeChange;
-use change_segment::Parts;
-use request::{File, Volume};
+use change_ground::Ground;
+use change_segment::{Parts, Places};
+use plan_def::Outputs;
+use std::ops::Range;
+
+// A change of a file as its laws ask for it, with the preallocated items that hold its two sectors.
+#[derive(Clone, Copy)]
+pub struct Begun<'a> {
+    pub base: Ground<'a>,
+    pub range: RangeChange,
+    pub parts: Parts,
+    ghost fair: { Fair (ground base) (change_of range base.file.size) },
+    ghost parting: { Parting (leaves_in base) range parts },
+}
+
+// One whose sectors can be written, with a generation to come.
+#[derive(Clone, Copy)]
+pub struct Started<'a> {
+    pub begun: Begun<'a>,
+    ghost generation: { begun.base.volume.generation + 1 < 2 ^ 64 },
+    ghost written: { stage (rewrite_refusal (ground begun.base)) (change_of begun.range begun.base.file.size).rewrites ≡ 0 },
+}
 
 // How many lines of references there are.
 #[derive(Clone, Copy)]
@@ -40,87 +57,72 @@ pub struct Counts {
     pub writes: usize,
 }
 
-// The shares, unrefs and releases of a plan.
-fn lay_refs(
-    v: Volume,
-    f: File,
-    c: RangeChange,
-    p: Parts,
-    list: &[u8],
-    shared: &[u8],
-    table: &[u64],
-    shares: &mut [u64],
-    unrefs: &mut [u64],
-    releases: &mut [u64],
-) -> RefCounts
-    requires { Started v f c p list.now shared.now table.now }
-    ensures { RefsLaid (plan_at v f c p list.now shared.now table.now 0 0) result shares.old unrefs.old releases.old shares.new unrefs.new releases.new }
-{
-    let mut seg = [0u8; 280];
-    let k = change_lines::cut_of(c, p);
-    let s = change_segment::joined_segment(v, c, p, list, &mut seg);
-    RefCounts {
-        shares: change_lines::put_shares(k, list, &seg, s, shares),
-        unrefs: change_lines::put_unrefs(k, list, shared, table, &seg, s, unrefs),
-        releases: cut_touched::put_drops(k, true, list, shared, table, releases, 0),
-    }
-}
+impl<'a> Started<'a> {
+    ghost use Rattle.plan_def.specs.Outputs.{outs_in, Kept};
+    ghost use Rattle.cut_def.specs.Pieces.{items_of};
+    ghost use Rattle.change_ground.specs.Lent.{items_in};
+    ghost use Rattle.change_segment.specs.declared.Places.{Places};
+    ghost use Rattle.change_lay.specs.Laid.{Pieced, plan_at, after_at, new_pieces, edits_at, RefsLaid, EditsLaid, PlanLaid};
 
-// The edits of a plan, with the pieces of holes among them (adds, three numbers each), and its byte count without them.
-fn lay_edits(
-    v: Volume,
-    f: File,
-    c: RangeChange,
-    p: Parts,
-    x: u64,
-    y: u64,
-    list: &[u8],
-    shared: &[u8],
-    table: &[u64],
-    pieces: &[u64],
-    edits: &mut [u8],
-) -> Edited
-    requires { Started v f c p list.now shared.now table.now × Pieced (items list.now) (items_of (after_at v f c p list.now shared.now table.now x y)) (piece_items f.number (v.generation + 1) pieces.now) }
-    ensures { EditsLaid f.number (edits_at v f c p list.now shared.now table.now x y pieces.now) (plan_at v f c p list.now shared.now table.now x y).bytes result edits.old edits.new }
-{
-    let mut seg = [0u8; 420];
-    let s = change_segment::changed_segment(v, f, c, p, x, y, list, &mut seg);
-    Edited {
-        edits: change_lines::put_changes(f.number, v.generation + 1, list, &seg, s, pieces, edits),
-        bytes: change_lines::bytes_after(list, &seg, s),
+    // The shares, unrefs and releases of its plan.
+    fn lay_refs(self, shares: &mut [u64], unrefs: &mut [u64], releases: &mut [u64]) -> RefCounts
+        ensures { (at : Places) → RefsLaid (plan_at self.entry.begun at) result shares.old unrefs.old releases.old shares.new unrefs.new releases.new }
+    {
+        let mut seg = [0u8; 280];
+        let b = self.begun;
+        let k = change_lines::cut_of(b.range, b.parts);
+        let m = change_segment::joined_segment(b.base, b.range, b.parts, &mut seg);
+        let shared = change_lines::put_shares(k, m, shares);
+        let drops = change_lines::put_drops(k, m, b.base.leaves, b.base.table, unrefs, releases);
+        RefCounts {
+            shares: shared,
+            unrefs: drops.unrefs,
+            releases: drops.releases,
+        }
     }
-}
 
-// A plan laid over the outputs, but for its adds, and its numbers: x is the front sector's place, y the back one's.
-pub fn lay_plan(
-    v: Volume,
-    f: File,
-    c: RangeChange,
-    p: Parts,
-    x: u64,
-    y: u64,
-    list: &[u8],
-    shared: &[u8],
-    table: &[u64],
-    pieces: &[u64],
-    edits: &mut [u8],
-    shares: &mut [u64],
-    unrefs: &mut [u64],
-    releases: &mut [u64],
-    writes: &mut [u64],
-) -> Counts
-    requires { Started v f c p list.now shared.now table.now
-        × (stage (rewrite_refusal (lent_ground v f list.now shared.now table.now)) (change_of c f.size).rewrites ≡ 0)
-        × Pieced (items list.now) (items_of (after_at v f c p list.now shared.now table.now x y)) (piece_items f.number (v.generation + 1) pieces.now) }
-    ensures { PlanLaidIn f.number (plan_at v f c p list.now shared.now table.now x y) (edits_at v f c p list.now shared.now table.now x y pieces.now)
-        result (five edits shares unrefs releases writes) }
-{
-    let refs = lay_refs(v, f, c, p, list, shared, table, shares, unrefs, releases);
-    let e = lay_edits(v, f, c, p, x, y, list, shared, table, pieces, edits);
-    let w = change_lines::put_writes(c, p, x, y, writes);
-    Counts {
-        refs,
-        edits: e,
-        writes: w,
+    // The edits of its plan, with the pieces of holes among them, and its byte count without them: `pieces` are the numbers of the
+    // adds that the pieces are read from. The adds are only read, but lent as a `&mut`: a `&` of one field beside a `&mut` of
+    // another is not covered.
+    fn lay_edits(
+        self,
+        at: Places,
+        pieces: Range<usize>,
+        adds: &mut [u64],
+        edits: &mut [u8],
+    ) -> Edited
+        requires inside { (pieces.start ≤ pieces.end) × (pieces.end ≤ length adds.old) }
+        requires pieced { Pieced (items_in self.begun.base) (items_of (after_at self.begun at)) (new_pieces self.begun (slice_range adds.old pieces.start pieces.end)) }
+        ensures laid { EditsLaid self.entry.begun.base.file.number (edits_at self.entry.begun at (slice_range adds.old pieces.start pieces.end)) (plan_at self.entry.begun at).bytes result edits.old edits.new }
+        ensures same { adds.new ≡ adds.old }
+    {
+        let mut seg = [0u8; 420];
+        let b = self.begun;
+        let m = change_segment::changed_segment(b.base, b.range, b.parts, at, &mut seg);
+        let file = b.base.file.number;
+        let generation = b.base.volume.generation + 1;
+        Edited {
+            edits: change_lines::put_changes(m, file, generation, &adds[pieces], edits),
+            bytes: change_lines::bytes_after(m),
+        }
+    }
+
+    // The plan laid over the outputs, but for its adds, and its numbers: its two sectors at these places, and `pieces` the numbers
+    // of the adds that the pieces of holes are read from.
+    pub fn lay_plan(self, at: Places, pieces: Range<usize>, out: &mut Outputs) -> Counts
+        requires inside { (pieces.start ≤ pieces.end) × (pieces.end ≤ length out.old.adds.now) }
+        requires pieced { Pieced (items_in self.begun.base) (items_of (after_at self.begun at)) (new_pieces self.begun (slice_range out.old.adds.now pieces.start pieces.end)) }
+        ensures laid { PlanLaid self.entry.begun.base.file.number (plan_at self.entry.begun at) (edits_at self.entry.begun at (slice_range out.old.adds.now pieces.start pieces.end))
+            result (outs_in out.old) (outs_in out.new) }
+        ensures kept { Kept out.old out.new }
+    {
+        let refs = self.lay_refs(out.shares, out.unrefs, out.releases);
+        let edits = self.lay_edits(at, pieces, out.adds, out.edits);
+        let writes = change_lines::put_writes(self.begun.range, self.begun.parts, at, out.writes);
+        Counts {
+            refs,
+            edits,
+            writes,
+        }
     }
 }
