@@ -2,20 +2,17 @@
 use mathlib.Core.Path.{◌≡◌, refl, ap, ap₂, ◌∙◌, sym}
 use mathlib.Core.Bool.{Bool, true, false, cond, false≢true}
 use mathlib.Core.List.{List, [], ◌∷◌, ◌++◌, map, flat_map, map-append, append_assoc, append-nil}
-use Prim.Native.Nat.{ℕ, zero, suc, ◌+◌, ◌-◌, ◌*◌, ◌/◌, ◌≤◌, ◌<◌, min}
+use Prim.Native.Nat.{ℕ, zero, suc, ◌+◌, ◌-◌, ◌*◌, ◌/◌, ◌≤◌, ◌<◌}
 use native.Mathlib.Omega.{arith}
 use native.Mathlib.Nat.{add-zero}
 use lib.Dec.{eqb, leb, ltb}
 use lib.ListN.{length, get_or, take, drop, set, length-append, length-take, length-map, take-append-drop}
-use lib.Seq.{take-suc, take-take, take_all, take-set-le, get_or-take}
+use lib.Seq.{take-suc, take-take, take-set-le, get_or-take}
 use borrow.Author.Tests.{ltb-true, ltb-false, leb-true, lt-ltb, le-leb, le-ltb}
 use Rattle.cut_def.proofs.Mappings.{items_kept}
 use Rattle.std.specs.List.{count_by}
 use Rattle.std.proofs.lemmas.List.Recursion.{is_count_by}
-use Rattle.std.specs.Simd.{first_chunks}
-use Rattle.records.specs.Records.{chunks, records}
 use Rattle.records.specs.Stages.{every, pairs}
-use Rattle.records.proofs.Loops.{records-length, records-at}
 use Rattle.records.proofs.Tests.{both_left, both_right, every_map}
 use Rattle.records.proofs.Lists.{every_append, every_one, every_flat, pairs_parts, flat_append}
 use Rattle.item.specs.declared.Item.{Item}
@@ -29,11 +26,10 @@ use Rattle.cut_def.proofs.Inserts.{insert_all-length}
 use Rattle.cut_segment.specs.Segments.{nothing}
 use Rattle.item.proofs.Widths.{length-encode}
 use Rattle.apply_def.specs.Apply.{edits_rise}
-use Rattle.plan_def.specs.ReadBack.{edit_in, edits_in}
+use Rattle.plan_def.specs.ReadBack.{edit_in}
 use Rattle.apply_def.specs.Buffers.{Same}
 use Rattle.apply_def.proofs.Buffers.{same_self, same-put, drop-set}
 use Rattle.apply_walk.proofs.Merge.{put_read, delete_read}
-use Rattle.apply_items.specs.declared.PassCursor.{PassCursor}
 use Rattle.apply_items.specs.Passes.{IsPut, puts_in, merged, last_over, Filling}
 
 -- ---- one more at the end
@@ -142,250 +138,186 @@ over_false k (suc i) fs l r h =
     let e : take (suc i) fs ≡ take i fs ++ g ∷ [] = take-suc fs i nothing (omega arith) in
     rw e (every_append (λ (a : Fields). leb a.key k) (take i fs) (g ∷ []) (every_map (λ (a : Fields). ltb a.key g.key) (λ (a : Fields). leb a.key k) (λ a t. let z = ltb-true a.key g.key t in le-leb a.key k (omega arith)) (take i fs) (last_old (take i fs) g (rw e at r))) (every_one (λ (a : Fields). leb a.key k) g (le-leb g.key k m)))
 
--- ---- a step
+-- ---- a put of f, the last edit that is left
 
--- edit j - 1, the last that is left
-module _ (edits : List ℕ) (j : ℕ) (pos : 0 < j) (hj : j ≤ length edits / 71) where
-  abbrev last : Edit
-  last = edit_in (drop ((j - 1) * 71) edits)
-
-  edits_snoc : take j (edits_in edits) ≡ take (j - 1) (edits_in edits) ++ last ∷ []
-  edits_snoc =
-      let n : j ≡ suc (j - 1) = omega arith in
-      let l : j - 1 < length edits / 71 = omega arith in
-      ap (λ (m : ℕ). take m (edits_in edits)) n ∙ take-suc (edits_in edits) (j - 1) last (omega (arith, records-length edit_in 71 edits)) ∙ ap (λ (e : Edit). take (j - 1) (edits_in edits) ++ e ∷ []) (records-at edit_in 71 edits (j - 1) last l)
-
-  module _ (f : Fields) (e : last ≡ put f) where
-    with_put : take j (edits_in edits) ≡ take (j - 1) (edits_in edits) ++ put f ∷ []
-    with_put = edits_snoc ∙ ap (λ (d : Edit). take (j - 1) (edits_in edits) ++ d ∷ []) e
-
-    puts-more : length (puts_in (take j (edits_in edits))) ≡ length (puts_in (take (j - 1) (edits_in edits))) + 1
-    puts-more = ap length (ap puts_in with_put ∙ puts_snoc (take (j - 1) (edits_in edits)) (put f)) ∙ length-append (puts_in (take (j - 1) (edits_in edits))) (f ∷ [])
-
-  -- it puts a record
-  pub put-there : (b : Bool) → b ≡ eqb (get_or (drop ((j - 1) * 71) edits) 0 0) 1 → b ≡ true → 0 < length (puts_in (take j (edits_in edits)))
-  put-there b q t = omega (arith, puts-more _ (put_read (drop ((j - 1) * 71) edits) (sym q ∙ t)))
-
--- what is filled ends inside the list
-pub fill_end : (edits before : List ℕ) (olds : List Fields) (at : PassCursor) (list : List ℕ) → Filling edits before olds at list → at.w ≤ length list / 70
-fill_end edits before olds at list p =
-    let es : List Edit = edits_in edits in
-    let a : length (puts_in es) ≡ length (puts_in (take at.j es)) + length (puts_in (drop at.j es)) = ap length (ap puts_in (sym (take-append-drop at.j es)) ∙ flat_append put_of (take at.j es) (drop at.j es)) ∙ length-append (puts_in (take at.j es)) (puts_in (drop at.j es)) in
-    omega (arith, p.w, p.i, p.room, p.same.long)
-
-module _ (edits before : List ℕ) (olds : List Fields) (at : PassCursor) (list : List ℕ) (p : Filling edits before olds at list) (pos : 0 < at.j) where
-  abbrev k : ℕ
-  k = at.j - 1
-
-  abbrev es : List Edit
-  es = edits_in edits
-
+module _ (whole : List Fields) (left : List Edit) (f : Fields) (before : List ℕ) (olds : List Fields) (i skip : ℕ) (list : List ℕ) (e : length (puts_in left) ≡ skip) (p : Filling whole (left ++ put f ∷ []) before olds i list) where
   abbrev xs : List Fields
   xs = items list
+
+  abbrev w : ℕ
+  w = i + skip
+
+  abbrev end : ℕ
+  end = i + length (puts_in (left ++ put f ∷ []))
 
   long : length xs ≡ length before / 70
   long = items-length list ∙ ap (λ (m : ℕ). m / 70) p.same.long
 
-  abbrev end : Edit
-  end = last edits at.j pos p.j
+  more : end ≡ suc w
+  more = let m = ap length (puts_snoc left (put f)) ∙ length-append (puts_in left) (f ∷ []) in omega (arith, m, e)
 
-  snoc : take at.j es ≡ take k es ++ end ∷ []
-  snoc = edits_snoc edits at.j pos p.j
+  inside : w < length xs
+  inside = omega (arith, p.room, more, long)
 
-  rising : pairs edits_rise (take k es ++ end ∷ []) ≡ true
-  rising = rw snoc at (pairs_parts edits_rise (take at.j es) (drop at.j es) (rw (take-append-drop at.j es) p.news)).0
+  back_one : (g : Fields) → drop w (set xs w g) ≡ g ∷ drop end xs
+  back_one g = drop-set xs w g inside ∙ ap (λ (m : ℕ). g ∷ drop m xs) (sym more)
 
-  pub fill_delete : (b : Bool) → b ≡ eqb (get_or (drop (k * 71) edits) 0 0) 1 → b ≡ false → Filling edits before olds (record { i = at.i; j = k; w = at.w }) list
-  fill_delete b q t =
-      let n : ℕ = (decode (drop 1 (drop (k * 71) edits))).key in
-      let e : take at.j es ≡ take k es ++ delete n ∷ [] = snoc ∙ ap (λ (e : Edit). take k es ++ e ∷ []) (delete_read (drop (k * 71) edits) (sym q ∙ t)) in
+  same_now : (g : Fields) (list' : List ℕ) → IsPut w g list list' → Same 70 before list'
+  same_now g list' x = same-put 70 (omega arith) before list list' (encode g) w p.same (length-encode g) (omega (arith, inside, long)) x.bytes
+
+  rises-in : pairs rises (take i xs) ≡ true
+  rises-in = rw p.front (pairs_parts rises (take i olds) (drop i olds) (rw (take-append-drop i olds) p.rise)).0
+
+  -- it comes behind all records in front
+  pub slide_put : false ≡ last_over f.key i xs → (list' : List ℕ) → IsPut w f list list' → Filling whole left before olds i list'
+  slide_put q list' x =
+      let h : every (λ (g : Fields). leb g.key f.key) (take i olds) ≡ true = rw p.front at (over_false f.key i xs (omega (arith, inside)) rises-in (sym q)) in
       record {
         rise = p.rise;
-        news = p.news;
-        room = p.room;
-        i = p.i;
-        j = omega (arith, p.j);
-        w = p.w ∙ ap (λ (l : List Fields). at.i + length l) (ap puts_in e ∙ puts_snoc (take k es) (delete n) ∙ append-nil (puts_in (take k es)));
-        same = p.same;
-        front = p.front;
-        behind = ap (λ (l : List Fields). l ++ drop at.w xs) (sym (ap (merged (take at.i olds)) e ∙ merged-delete (take at.i olds) (take k es) n)) ∙ p.behind;
+        news = (pairs_parts edits_rise left (put f ∷ []) p.news).0;
+        room = omega (arith, p.room, more, e);
+        most = p.most;
+        same = same_now f list' x;
+        front = ap (take i) x.those ∙ take-set-le i xs w f (omega arith) ∙ p.front;
+        behind =
+            ap (λ (m : ℕ). merged (take i olds) left ++ drop (i + m) (items list')) e
+            ∙ ap (λ (l : List Fields). merged (take i olds) left ++ l) (ap (drop w) x.those ∙ back_one f)
+            ∙ sym (append_assoc (merged (take i olds) left) (f ∷ []) (drop end xs))
+            ∙ ap (λ (l : List Fields). l ++ drop end xs) (sym (merged-put (take i olds) left f h p.news))
+            ∙ p.behind;
       }
 
-  -- edit k puts f
-  module _ (b : Bool) (q : b ≡ eqb (get_or (drop (k * 71) edits) 0 0) 1) (t : b ≡ true) (f : Fields) (e : f ≡ decode (drop 1 (drop (k * 71) edits))) where
-    is-put : end ≡ put f
-    is-put = put_read (drop (k * 71) edits) (sym q ∙ t) ∙ ap put (sym e)
+  -- or the last of them comes behind it
+  module _ (q : true ≡ last_over f.key i xs) (o : Item) (y : o ≡ item_of (drop ((i - 1) * 70) list)) where
+    abbrev m : ℕ
+    m = i - 1
 
-    more : length (puts_in (take at.j es)) ≡ length (puts_in (take k es)) + 1
-    more = puts-more edits at.j pos p.j f is-put
+    abbrev g : Fields
+    g = fields o
 
-    with_f : take at.j es ≡ take k es ++ put f ∷ []
-    with_f = with_put edits at.j pos p.j f is-put
+    abbrev es : List Edit
+    es = left ++ put f ∷ []
 
-    put_some : at.i < at.w
-    put_some = omega (arith, p.w, more)
+    over : (0 < i) × (f.key < (get_or xs m nothing).key)
+    over = over-true f.key i xs (sym q)
 
-    put-rises : pairs edits_rise (take k es ++ put f ∷ []) ≡ true
-    put-rises = rw is-put at rising
+    g_at : (d : Fields) → get_or xs m d ≡ g
+    g_at d = items_at list m d (omega (arith, over, inside, items-length list)) ∙ sym (item-decode o _ y)
 
-    -- there is room
-    put-room : at.w ≤ length before / 70
-    put-room = rw p.same.long at (fill_end edits before olds at list p)
+    g_past : f.key < g.key
+    g_past = rw (g_at nothing) at over.1
 
-    place_in : at.w - 1 < length xs
-    place_in = omega (arith, put_some, put-room, long)
+    g_old : g ≡ get_or olds m g
+    g_old = sym (g_at g) ∙ sym (get_or-take i xs m g (omega (arith, over))) ∙ ap (λ (l : List Fields). get_or l m g) p.front ∙ get_or-take i olds m g (omega (arith, over))
 
-    back_one : (g : Fields) → drop (at.w - 1) (set xs (at.w - 1) g) ≡ g ∷ drop at.w xs
-    back_one g =
-        let n : suc (at.w - 1) ≡ at.w = omega (arith, put_some) in
-        drop-set xs (at.w - 1) g place_in ∙ ap (λ (m : ℕ). g ∷ drop m xs) n
+    olds_snoc : take i olds ≡ take m olds ++ g ∷ []
+    olds_snoc =
+        let n : i ≡ suc m = omega (arith, over) in
+        ap (λ (i : ℕ). take i olds) n ∙ take-suc olds m g (omega (arith, p.most, over)) ∙ ap (λ (h : Fields). take m olds ++ h ∷ []) (sym g_old)
 
-    same_now : (g : Fields) (list' : List ℕ) → IsPut (at.w - 1) g list list' → Same 70 before list'
-    same_now g list' x = same-put 70 (omega arith) before list list' (encode g) (at.w - 1) p.same (length-encode g) (omega (arith, place_in, long)) x.bytes
+    below : every (λ (x : Fields). ltb x.key g.key) (puts_in es) ≡ true
+    below = puts-below g.key es (every_append (λ (e : Edit). ltb (key_of e) g.key) left (put f ∷ []) (every_map (λ (a : Edit). ltb (key_of a) f.key) (λ (a : Edit). ltb (key_of a) g.key) (λ a h. let z = ltb-true (key_of a) f.key h in lt-ltb (key_of a) g.key (omega (arith, g_past))) left (last_edit left (put f) p.news)) (every_one (λ (e : Edit). ltb (key_of e) g.key) (put f) (lt-ltb f.key g.key g_past)))
 
-    -- it comes last
-    put_last : every (λ (g : Fields). leb g.key f.key) (take at.i olds) ≡ true → (list' : List ℕ) → IsPut (at.w - 1) f list list' → Filling edits before olds (record { i = at.i; j = k; w = at.w - 1 }) list'
-    put_last h list' x =
+    pub slide_old : (list' : List ℕ) → IsPut w g list list' → Filling whole es before olds m list'
+    slide_old list' x =
+        let last : m + length (puts_in es) ≡ w = omega (arith, more, over) in
         record {
           rise = p.rise;
           news = p.news;
-          room = p.room;
-          i = p.i;
-          j = omega (arith, p.j);
-          w = omega (arith, p.w, more);
-          same = same_now f list' x;
-          front = ap (take at.i) x.those ∙ take-set-le at.i xs (at.w - 1) f (omega (arith, put_some)) ∙ p.front;
-          behind =
-              ap (λ (l : List Fields). merged (take at.i olds) (take k es) ++ l) (ap (drop (at.w - 1)) x.those ∙ back_one f)
-              ∙ sym (append_assoc (merged (take at.i olds) (take k es)) (f ∷ []) (drop at.w xs))
-              ∙ ap (λ (l : List Fields). l ++ drop at.w xs) (sym (ap (merged (take at.i olds)) with_f ∙ merged-put (take at.i olds) (take k es) f h put-rises))
-              ∙ p.behind;
-        }
-
-    -- or the last record in front does
-    old_last : (g : Fields) → 0 < at.i → g ≡ get_or xs (at.i - 1) g → f.key < g.key → (list' : List ℕ) → IsPut (at.w - 1) g list list' → Filling edits before olds (record { i = at.i - 1; j = at.j; w = at.w - 1 }) list'
-    old_last g some r lt list' x =
-        record {
-          rise = p.rise;
-          news = p.news;
-          room = p.room;
-          i = omega (arith, p.i);
-          j = p.j;
-          w = omega (arith, p.w);
+          room = omega (arith, p.room);
+          most = omega (arith, p.most);
           same = same_now g list' x;
           front =
               ap (take m) x.those
-              ∙ take-set-le m xs (at.w - 1) g (omega (arith, put_some))
-              ∙ sym (take-take m at.i xs (omega arith))
+              ∙ take-set-le m xs w g (omega arith)
+              ∙ sym (take-take m i xs (omega arith))
               ∙ ap (take m) p.front
-              ∙ take-take m at.i olds (omega arith);
+              ∙ take-take m i olds (omega arith);
           behind =
-              ap (λ (l : List Fields). merged (take m olds) (take at.j es) ++ l) (ap (drop (at.w - 1)) x.those ∙ back_one g)
-              ∙ sym (append_assoc (merged (take m olds) (take at.j es)) (g ∷ []) (drop at.w xs))
-              ∙ ap (λ (l : List Fields). l ++ drop at.w xs) (sym (ap (λ (l : List Fields). merged l (take at.j es)) olds_snoc ∙ merged-old (take m olds) g (take at.j es) below))
+              ap (λ (n : ℕ). merged (take m olds) es ++ drop n (items list')) last
+              ∙ ap (λ (l : List Fields). merged (take m olds) es ++ l) (ap (drop w) x.those ∙ back_one g)
+              ∙ sym (append_assoc (merged (take m olds) es) (g ∷ []) (drop end xs))
+              ∙ ap (λ (l : List Fields). l ++ drop end xs) (sym (ap (λ (l : List Fields). merged l es) olds_snoc ∙ merged-old (take m olds) g es below))
               ∙ p.behind;
         }
-      where
-        m : ℕ
-        m = at.i - 1
 
-        g_old : g ≡ get_or olds m g
-        g_old = r ∙ sym (get_or-take at.i xs m g (omega arith)) ∙ ap (λ (l : List Fields). get_or l m g) p.front ∙ get_or-take at.i olds m g (omega arith)
+-- ---- the last of the lines that are left
 
-        olds_snoc : take at.i olds ≡ take m olds ++ g ∷ []
-        olds_snoc =
-            let n : at.i ≡ suc m = omega arith in
-            ap (λ (i : ℕ). take i olds) n ∙ take-suc olds m g (omega (arith, p.i)) ∙ ap (λ (h : Fields). take m olds ++ h ∷ []) (sym g_old)
+module _ (lines rest : List (List ℕ)) (c : List ℕ) (e : lines ≡ rest ++ c ∷ []) where
+  lines_snoc : map edit_in lines ≡ map edit_in rest ++ edit_in c ∷ []
+  lines_snoc = ap (map edit_in) e ∙ map-append edit_in rest (c ∷ [])
 
-        below : every (λ (x : Fields). ltb x.key g.key) (puts_in (take at.j es)) ≡ true
-        below = puts-below g.key (take at.j es) (rw with_f (every_append (λ (e : Edit). ltb (key_of e) g.key) (take k es) (put f ∷ []) (every_map (λ (a : Edit). ltb (key_of a) f.key) (λ (a : Edit). ltb (key_of a) g.key) (λ a h. let z = ltb-true (key_of a) f.key h in lt-ltb (key_of a) g.key (omega arith)) (take k es) (last_edit (take k es) (put f) put-rises)) (every_one (λ (e : Edit). ltb (key_of e) g.key) (put f) (lt-ltb f.key g.key lt))))
+  pub put_snoc : true ≡ eqb (get_or c 0 0) 1 → (f : Fields) → f ≡ decode (drop 1 c) → map edit_in lines ≡ map edit_in rest ++ put f ∷ []
+  put_snoc x f r = lines_snoc ∙ ap (λ (d : Edit). map edit_in rest ++ d ∷ []) (put_read c (sym x) ∙ ap put (sym r))
 
-    pub fill_put : (c : Bool) → c ≡ last_over f.key at.i xs → c ≡ false → (list' : List ℕ) → IsPut (at.w - 1) f list list' → Filling edits before olds (record { i = at.i; j = k; w = at.w - 1 }) list'
-    fill_put c u v list' x =
-        let r : pairs rises (take at.i xs) ≡ true = rw p.front (pairs_parts rises (take at.i olds) (drop at.i olds) (rw (take-append-drop at.i olds) p.rise)).0 in
-        put_last (rw p.front at (over_false f.key at.i xs (omega (arith, put_some, put-room, long)) r (sym u ∙ v))) list' x
+  pub put-more : true ≡ eqb (get_or c 0 0) 1 → length (puts_in (map edit_in lines)) ≡ length (puts_in (map edit_in rest)) + 1
+  put-more x = ap length (ap puts_in (put_snoc x _ refl) ∙ puts_snoc (map edit_in rest) (put _)) ∙ length-append (puts_in (map edit_in rest)) (_ ∷ [])
 
-    pub fill_old : (c : Bool) → c ≡ last_over f.key at.i xs → c ≡ true → (o : Item) → o ≡ item_of (drop ((at.i - 1) * 70) list) → (list' : List ℕ) → IsPut (at.w - 1) (fields o) list list' → Filling edits before olds (record { i = at.i - 1; j = at.j; w = at.w - 1 }) list'
-    fill_old c u v o y list' x =
-        let h = over-true f.key at.i xs (sym u ∙ v) in
-        let l : at.i - 1 < length list / 70 = omega (arith, h.0, put_some, put-room, long, items-length list) in
-        let z : fields o ≡ decode (drop ((at.i - 1) * 70) list) = item-decode o _ y in
-        let s : get_or xs (at.i - 1) nothing ≡ fields o = items_at list (at.i - 1) nothing l ∙ sym z in
-        old_last (fields o) h.0 (z ∙ sym (items_at list (at.i - 1) (fields o) l)) (rw s at h.1) list' x
+  module _ (x : false ≡ eqb (get_or c 0 0) 1) where
+    delete_snoc : map edit_in lines ≡ map edit_in rest ++ delete (decode (drop 1 c)).key ∷ []
+    delete_snoc = lines_snoc ∙ ap (λ (d : Edit). map edit_in rest ++ d ∷ []) (delete_read c (sym x))
+
+    delete_same : puts_in (map edit_in lines) ≡ puts_in (map edit_in rest)
+    delete_same = ap puts_in delete_snoc ∙ puts_snoc (map edit_in rest) (delete _) ∙ append-nil (puts_in (map edit_in rest))
+
+    pub fill_delete : (whole : List Fields) (before : List ℕ) (olds : List Fields) (i skip : ℕ) (list : List ℕ) → Filling whole (map edit_in lines) before olds i list × (length (puts_in (map edit_in lines)) ≡ skip)
+        → Filling whole (map edit_in rest) before olds i list × (length (puts_in (map edit_in rest)) ≡ skip)
+    fill_delete whole before olds i skip list p = (
+      record {
+        rise = p.0.rise;
+        news = (pairs_parts edits_rise (map edit_in rest) (delete _ ∷ []) (rw delete_snoc at p.0.news)).0;
+        room = rw delete_same at p.0.room;
+        most = p.0.most;
+        same = p.0.same;
+        front = p.0.front;
+        behind = rw delete_same at p.0.behind;
+      },
+      rw delete_same at p.1,
+    )
 
 -- ---- the start and the end
 
-pub fill_start : (edits before : List ℕ) (n end : ℕ) → n ≤ length before / 70 → end ≤ length before / 70 → end ≡ n + length (puts_in (edits_in edits)) → pairs rises (take n (items before)) ≡ true → pairs edits_rise (edits_in edits) ≡ true
-    → Filling edits before (take n (items before)) (record { i = n; j = length edits / 71; w = end }) before
-fill_start edits before n end h l e r s =
-    let fs : List Fields = take n (items before) in
-    let es : List Edit = edits_in edits in
-    let m : length fs ≡ n = length-take n (items before) ∙ (let m : min n (length (items before)) ≡ n = omega (arith, items-length before) in m) in
-    let a : take (length edits / 71) es ≡ es = take_all (length edits / 71) es (omega (arith, records-length edit_in 71 edits)) in
-    let f : take n fs ≡ fs = take_all n fs (omega arith) in
-    record {
-      rise = r;
-      news = s;
-      room = omega arith;
-      i = omega arith;
-      j = omega arith;
-      w = e ∙ ap (λ (l : List Edit). n + length (puts_in l)) (sym a);
-      same = same_self 70 (omega arith) before;
-      front = sym f;
-      behind = ap₂ (λ (x : List Fields) (y : List Edit). merged x y ++ drop end (items before)) f a ∙ ap (λ (k : ℕ). merged fs es ++ drop k (items before)) (e ∙ ap (λ (k : ℕ). k + length (puts_in es)) (sym m));
-    }
+module _ (before : List ℕ) (n puts : ℕ) (es : List Edit) (h : n + puts ≤ length before / 70) (e : puts ≡ length (puts_in es)) where
+  abbrev olds_in : List Fields
+  olds_in = take n (items before)
 
-fill_done : (edits before : List ℕ) (olds : List Fields) (at : PassCursor) (list : List ℕ) → Filling edits before olds at list → at.j ≡ 0 → items list ≡ merged olds (edits_in edits) ++ drop (length olds + length (puts_in (edits_in edits))) (items before)
-fill_done edits before olds at list p z =
-    let w : at.w ≡ at.i = p.w ∙ rw z (unfold flat_map in add-zero at.i) in
-    let m : merged (take at.i olds) (take at.j (edits_in edits)) ≡ take at.i olds = rw z (unfold flat_map insert_all in items_kept (take at.i olds)) in
-    sym (take-append-drop at.i (items list))
-    ∙ ap₂ (λ (x : List Fields) (k : ℕ). x ++ drop k (items list)) p.front (sym w)
-    ∙ ap (λ (x : List Fields). x ++ drop at.w (items list)) (sym m)
-    ∙ p.behind
+  pub fill_start : pairs rises olds_in ≡ true → pairs edits_rise es ≡ true → Filling (merged olds_in es ++ drop (n + puts) (items before)) es before olds_in n before
+  fill_start r s =
+      let f : take n olds_in ≡ olds_in = take-take n n (items before) (omega arith) in
+      record {
+        rise = r;
+        news = s;
+        room = omega arith;
+        most = omega (arith, length-take n (items before), items-length before);
+        same = same_self 70 (omega arith) before;
+        front = sym f;
+        behind = ap₂ (λ (x : List Fields) (k : ℕ). merged x es ++ drop (n + k) (items before)) f (sym e);
+      }
+
+pub fill_done : (whole : List Fields) (left : List Edit) (before : List ℕ) (olds : List Fields) (i : ℕ) (list : List ℕ) → Filling whole left before olds i list → left ≡ [] → items list ≡ whole
+unfolding flat_map insert_all
+fill_done whole left before olds i list p z =
+    let b : merged (take i olds) [] ++ drop (i + 0) (items list) ≡ whole = rw z at p.behind in
+    let m : merged (take i olds) [] ≡ take i olds = items_kept (take i olds) in
+    sym (take-append-drop i (items list))
+    ∙ ap₂ (λ (x : List Fields) (k : ℕ). x ++ drop k (items list)) p.front (sym (add-zero i))
+    ∙ ap (λ (x : List Fields). x ++ drop (i + 0) (items list)) (sym m)
+    ∙ b
 
 -- ---- how many are put
 
--- the tags of the edits, read chunk by chunk
+-- a line puts a record
 abbrev pub puts-one : List ℕ → Bool
 puts-one s = eqb (get_or s 0 0) 1
 
-tagged : List (List ℕ) → ℕ
-tagged [] = 0
-tagged (c ∷ cs) = cond (puts-one c) (1 + tagged cs) (tagged cs)
-
-puts_cons : (t : List ℕ) (es : List Edit) → length (puts_in (edit_in t ∷ es)) ≡ cond (eqb (get_or t 0 0) 1) (1 + length (puts_in es)) (length (puts_in es))
+puts_cons : (t : List ℕ) (es : List Edit) → length (puts_in (edit_in t ∷ es)) ≡ cond (puts-one t) (1 + length (puts_in es)) (length (puts_in es))
 unfolding flat_map edit_in
-puts_cons t es = go (eqb (get_or t 0 0) 1)
+puts_cons t es = go (puts-one t)
   where
     go : (b : Bool) → length (puts_in (cond b (put (decode (drop 1 t))) (delete (decode (drop 1 t)).key) ∷ es)) ≡ cond b (1 + length (puts_in es)) (length (puts_in es))
     go true = omega arith
     go false = refl
 
-tagged_chunks : (n : ℕ) (t : List ℕ) → tagged (first_chunks 71 n t) ≡ length (puts_in (chunks edit_in 71 n t))
-unfolding chunks flat_map tagged
-tagged_chunks zero t = refl
-tagged_chunks (suc n) t =
-    ap₂ (λ (k m : ℕ). cond (eqb k 1) (1 + m) m) (get_or-take 71 t 0 0 (omega arith)) (tagged_chunks n (drop 71 t))
-    ∙ sym (puts_cons t (chunks edit_in 71 n (drop 71 t)))
-
-pub puts_counted : (s : List ℕ) → count_by puts-one (first_chunks 71 (length s / 71) s) ≡ length (puts_in (edits_in s))
-unfolding records tagged
-puts_counted s = sym (is_count_by tagged puts-one refl (λ c cs. refl) (first_chunks 71 (length s / 71) s)) ∙ tagged_chunks (length s / 71) s
-
-pub fill_result : (edits before : List ℕ) (n end : ℕ) (at : PassCursor) (list : List ℕ) → n ≤ length before / 70 → end ≡ n + length (puts_in (edits_in edits)) → Filling edits before (take n (items before)) at list → at.j ≡ 0
-    → items list ≡ merged (take n (items before)) (edits_in edits) ++ drop end (items before)
-fill_result edits before n end at list h e p z =
-    let fs : List Fields = take n (items before) in
-    let m : length fs ≡ n = length-take n (items before) ∙ (let m : min n (length (items before)) ≡ n = omega (arith, items-length before) in m) in
-    fill_done edits before fs at list p z ∙ ap (λ (k : ℕ). merged fs (edits_in edits) ++ drop k (items before)) (ap (λ (k : ℕ). k + length (puts_in (edits_in edits))) m ∙ sym e)
-
--- what is put is no more than there are edits
-puts-most : (es : List Edit) → length (puts_in es) ≤ length es
+pub puts_counted : (lines : List (List ℕ)) → count_by puts-one lines ≡ length (puts_in (map edit_in lines))
 unfolding flat_map
-puts-most [] = omega arith
-puts-most (put x ∷ es) = omega (arith, puts-most es)
-puts-most (delete k ∷ es) = omega (arith, puts-most es)
-
-pub puts-few : (s : List ℕ) → length (puts_in (edits_in s)) ≤ length s / 71
-puts-few s = omega (arith, puts-most (edits_in s), records-length edit_in 71 s)
+puts_counted lines = sym (is_count_by (λ (cs : List (List ℕ)). length (puts_in (map edit_in cs))) puts-one refl (λ c cs. puts_cons c (map edit_in cs)) lines)

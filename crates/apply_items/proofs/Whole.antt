@@ -1,7 +1,7 @@
 -- The two passes together leave the list after the edits, laid over what was there. Assumes nothing.
 use mathlib.Core.Path.{◌≡◌, ap, ap₂, ◌∙◌, sym}
 use mathlib.Core.Bool.{true, not}
-use mathlib.Core.List.{List, ◌++◌}
+use mathlib.Core.List.{List, ◌++◌, map}
 use Prim.Native.Nat.{ℕ, ◌+◌, ◌-◌, ◌*◌, ◌/◌, ◌≤◌, min}
 use native.Mathlib.Omega.{arith}
 use lib.ListN.{length, take, drop, length-take}
@@ -17,7 +17,10 @@ use Rattle.lists.specs.Lists.{rises}
 use Rattle.cut_def.specs.Edits.{Edit, edited, items_after}
 use Rattle.plan_def.specs.Outputs.{laid}
 use Rattle.item.proofs.Widths.{decode-take, length-encode}
-use Rattle.plan_def.specs.ReadBack.{edits_in}
+use Rattle.plan_def.specs.ReadBack.{edit_in, edits_in}
+use Rattle.apply_def.proofs.Chunks.{records_read}
+use Rattle.apply_walk.proofs.Merge.{edit_own}
+use Rattle.std.specs.Simd.{first_chunks}
 use Rattle.apply_def.specs.Lent.{items_in}
 use Rattle.apply_def.specs.Buffers.{Same}
 use Rattle.apply_def.proofs.Buffers.{records-take, same-done, same_then}
@@ -30,19 +33,20 @@ pub items-first : (n : ℕ) (s : List ℕ) → n ≤ length s / 70 → items_in 
 unfolding items
 items-first n s h = records-take decode 70 (omega arith) decode-take n s h
 
-module _ (edits before : List ℕ) (n : ℕ) (h : n ≤ length before / 70) where
-  abbrev es : List Edit
-  es = edits_in edits
+-- a plan's edits are its lines, read one by one
+pub edits_read : (edits : List ℕ) (lines : List (List ℕ)) → lines ≡ first_chunks 71 (length edits / 71) edits → map edit_in lines ≡ edits_in edits
+edits_read edits lines e = ap (map edit_in) e ∙ records_read edit_in 71 edit_own edits
 
+module _ (edits before : List ℕ) (n : ℕ) (h : n ≤ length before / 70) (es : List Edit) (q : es ≡ edits_in edits) where
   abbrev olds : List Fields
   olds = unnamed es (take n (items before))
 
   -- the list after the edits is a merge
   now_merged : items_now (take (n * 70) before) edits ≡ merged olds es
   unfolding items_after
-  now_merged = ap (λ (fs : List Fields). merged (unnamed es fs) es) (items-first n before h)
+  now_merged = ap₂ (λ (fs : List Fields) (es : List Edit). merged (unnamed es fs) es) (items-first n before h) (sym q)
 
-  module _ (m : ℕ) (list : List ℕ) (p : Packed edits before n m list) where
+  module _ (m : ℕ) (list : List ℕ) (p : Packed es before n m list) where
     pub packed_many : m ≡ length olds
     packed_many =
         let l : min m (length (items list)) ≡ m = omega (arith, items-length list, p.same.long, p.most) in

@@ -1,11 +1,12 @@
-use Prim.Native.Nat.{◌+◌}
-use lib.ListN.{take}
+use Rattle.std.proofs.Common.{◌≡◌, ◌+◌, ◌++◌, length, map, take, drop}
 use Rattle.item.specs.Items.{items}
-use Rattle.apply_items.specs.Passes.{Filling}
+use Rattle.plan_def.specs.ReadBack.{edit_in}
+use Rattle.apply_items.specs.Passes.{edits_of, puts_in, merged, Filling}
 use Rattle.apply_items.proofs.fill.Given as goal
 
-abbrev pub invariant-loop-at : goal.invariant-loop-at
-invariant-loop-at l = Filling l.edits l.initial.list (take l.n (items l.initial.list)) l.at l.list
-
-abbrev pub decreases-loop-at : goal.decreases-loop-at
-decreases-loop-at l = l.at.i + l.at.j
+abbrev pub invariant-loop-line : goal.invariant-loop-line
+invariant-loop-line l =
+    let before = l.initial.list in
+    let olds = take l.n (items before) in
+    let left = map edit_in l.line-iterator.iter.rest.now in
+    Filling (merged olds (edits_of l.edits) ++ drop (l.n + l.puts) (items before)) left before olds l.i l.list × (length (puts_in left) ≡ l.skip)

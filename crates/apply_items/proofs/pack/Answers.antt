@@ -1,26 +1,15 @@
-use Rattle.apply_items.proofs.Front.{pack_start, pack_done}
-use native.Mathlib.Omega.{arith}
+use mathlib.Core.Path.{◌∙◌, sym}
+use Rattle.apply_items.proofs.Front.{pack_named, pack_kept, pack_done}
+use Rattle.apply_items.proofs.pack.Goals.{then-not-names, else-not-names}
 use Rattle.apply_items.proofs.pack.Goals as goal
 
-pub loop-at-init : goal.loop-at-init
-loop-at-init c = let p = c.requires in
-    pack_start _ _ _ p.1 p.2 p.0
-
-pub pack_step-at-requires : goal.pack_step-at-requires
-pack_step-at-requires c = let i = c.loop-at.invariant in
-    (omega (arith, i.same.long, i.inside), i.w, i.j)
-
-pub loop-at-smaller : goal.loop-at-smaller
-loop-at-smaller c = let e = c.pack_step-at.ensures in
-    let n = c.loop-at.invariant in
-    let l = e.1 _ _ c.loop-at-test.true n in
-    omega (arith, e.0, l.i, l.j)
-
-pub loop-at-preserved : goal.loop-at-preserved
-loop-at-preserved c = c.pack_step-at.ensures.1 _ _ c.loop-at-test.true c.loop-at.invariant
-
-pub shape_of-list : goal.shape_of-list
-shape_of-list c = c.loop-at.invariant.same.long
+pub loop-i-preserved : goal.loop-i-preserved
+loop-i-preserved c = let n = c.names.ensures in
+    let p = c.loop-i.invariant in
+    elim c.if-not-names.branch [
+      | then-not-names w ↦ rw (w.list-is, w.w-is) (pack_kept _ _ _ _ _ _ _ p c.requires.0 c.requires.1 c.loop-i-test.true _ c.item_at-item.ensures _ n.1 (sym w.if-not-names.true ∙ n.0) _ w.put_record.ensures)
+      | else-not-names w ↦ rw (w.list-is, w.w-is) (pack_named _ _ _ _ _ _ _ p c.requires.0 c.requires.1 c.loop-i-test.true _ c.item_at-item.ensures _ n.1 (sym w.if-not-names.false ∙ n.0))
+    ]
 
 pub returns : goal.returns
-returns c = pack_done _ _ _ _ _ c.loop-at.invariant c.loop-at-test.false
+returns c = pack_done _ _ _ _ _ _ _ c.loop-i.invariant c.loop-i.auto.i-end c.loop-i-test.false

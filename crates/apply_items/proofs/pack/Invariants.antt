@@ -1,10 +1,5 @@
-use Prim.Native.Nat.{◌+◌, ◌-◌, ◌/◌}
-use lib.ListN.{length}
-use Rattle.apply_items.specs.Passes.{Packing}
+use Rattle.apply_items.specs.Passes.{edits_of, Packing}
 use Rattle.apply_items.proofs.pack.Given as goal
 
-abbrev pub invariant-loop-at : goal.invariant-loop-at
-invariant-loop-at l = Packing l.edits l.initial.list l.n l.at l.list
-
-abbrev pub decreases-loop-at : goal.decreases-loop-at
-decreases-loop-at l = l.n + length l.edits / 71 - (l.at.i + l.at.j)
+abbrev pub invariant-loop-i : goal.invariant-loop-i
+invariant-loop-i l = Packing (edits_of l.fn.edits) (edits_of l.left) l.initial.list l.n l.i l.w l.list
