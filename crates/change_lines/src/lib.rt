@@ -22,6 +22,7 @@ use change_def::{RangeChange, Rewrite};
 use change_segment::{Parts, Places, back_new, front_new};
 use cut_segment::{Remade, RunningLeaves};
 use drop_lines::{Cut, DropCounts};
+use ref_compare::Compared;
 use table::Table;
 
 // ---- writes
@@ -75,14 +76,28 @@ pub fn put_more(k: Cut, m: Remade, out: &mut [u64], n: usize) -> usize
     requires { n + m.segment.count < 2 ^ 64 }
     ensures { Laid ref_numbers 2 n (compared_of k (taken_of m.entry) (made_of m.entry)) out.old result out.new }
 {
-    ref_compare::put_compared(m.made(), m.taken(), k.one, k.two, out, n)
+    let more = Compared {
+        x: m.made(),
+        y: m.taken(),
+        one: k.one,
+        two: k.two,
+        n,
+    };
+    ref_compare::put_compared(more, out)
 }
 
 // Those that there are fewer of.
 fn put_fewer(k: Cut, m: Remade, out: &mut [u64]) -> usize
     ensures { Laid ref_numbers 2 0 (compared_of k (made_of m.entry) (taken_of m.entry)) out.old result out.new }
 {
-    ref_compare::put_compared(m.taken(), m.made(), k.one, k.two, out, 0)
+    let fewer = Compared {
+        x: m.taken(),
+        y: m.made(),
+        one: k.one,
+        two: k.two,
+        n: 0,
+    };
+    ref_compare::put_compared(fewer, out)
 }
 
 // The shares of a plan: splits, then the references that there are more of.

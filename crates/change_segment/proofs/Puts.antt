@@ -11,9 +11,10 @@ use Rattle.cut_def.specs.Joins.{join_around, join_all}
 use Rattle.cut_segment.specs.declared.Running.{Running}
 use Rattle.cut_segment.specs.declared.making.Making.{Making}
 use Rattle.cut_segment.specs.declared.remade.Remade.{Remade}
-use Rattle.cut_segment.specs.Segments.{Around, item_at, pieces}
+use Rattle.cut_segment.specs.Segments.{item_at, pieces}
 use Rattle.cut_segment.specs.Making.{Of, CutFrom, Stays}
 use Rattle.cut_segment.proofs.Inserting.{inserted_pieces, inserted_around, inserted_first, inserted_lower}
+use Rattle.cut_joins.specs.Joins.{Reaching}
 use Rattle.cut_joins.proofs.Joining.{joining_around}
 use Rattle.change_def.specs.declared.Rewrite.{Rewrite}
 use Rattle.change_def.specs.declared.RangeChange.{RangeChange}
@@ -152,21 +153,21 @@ module _ (t : Stamp) (c : RangeChange) (p : Parts) (l : Running) (room : ℕ) (i
           (made-put _ c.lo c.hi 3 l room m1 m2 made1 t2 p.back item p2 (λ w e. fitting w (inside.back w e)))
 
       -- what the joins ask for
-      pub join_front : ForSome p.front (λ (w : InPlace). Around w.rewrite.sector m2.list.records.now m2.segment × (0 < m2.segment.count) × ((item_at m2.buffer.now 0).key ≤ w.rewrite.sector))
+      pub join_front : ForSome p.front (λ (w : InPlace). Reaching w.rewrite.sector m2)
       join_front w e =
           let i = fitting w (inside.front w e) in
           let r = put_keeps m1 m2 p.back item (sector_of w) p2 (put_reaches m0 m1 p.front item p1 w e) in
-          (made2.made.around (sector_of w) i.0 i.1, r.0, r.1)
+          record { around = made2.made.around (sector_of w) i.0 i.1; some = r.0; first = r.1 }
 
       module _ (m3 : Making) (j1 : JoinedIf p.front t.generation m2 m3) (t3 : Stays m2 m3) where
         made3 : MadeIn (join_all t.generation (map sector_of (option_to_list p.front)) both_in) c.lo c.hi 4 l room m3
         made3 = made-join both_in c.lo c.hi 4 l room m2 m3 made2 t3 p.front t.generation j1
 
-        pub join_back : ForSome p.back (λ (w : InPlace). Around w.rewrite.sector m3.list.records.now m3.segment × (0 < m3.segment.count) × ((item_at m3.buffer.now 0).key ≤ w.rewrite.sector))
+        pub join_back : ForSome p.back (λ (w : InPlace). Reaching w.rewrite.sector m3)
         join_back w e =
             let i = fitting w (inside.back w e) in
             let r = join_keeps m2 m3 p.front t.generation (sector_of w) j1 (put_reaches m1 m2 p.back item p2 w e) in
-            (made3.made.around (sector_of w) i.0 i.1, r.0, r.1)
+            record { around = made3.made.around (sector_of w) i.0 i.1; some = r.0; first = r.1 }
 
         pub made_all : (m4 : Making) → JoinedIf p.back t.generation m3 m4 → Stays m3 m4 → MadeIn (written_pieces t.generation t.sector c p (items l.records.now)) c.lo c.hi 4 l room m4
         made_all m4 j2 t4 =

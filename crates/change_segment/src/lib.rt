@@ -5,8 +5,9 @@ ghost use Rattle.std.specs.Prelude.{◌≡◌, true, ◌+◌, ◌*◌, ◌<◌, 
 ghost use Rattle.std.specs.Option.{ForSome};
 ghost use Rattle.records.specs.Lent.{old, new};
 ghost use Rattle.item.specs.Items.{items};
-ghost use Rattle.cut_segment.specs.Segments.{item_at, bounded, Around};
+ghost use Rattle.cut_segment.specs.Segments.{bounded};
 ghost use Rattle.cut_segment.specs.Making.{Stays};
+ghost use Rattle.cut_joins.specs.Joins.{Reaching};
 ghost use Rattle.change_ground.specs.Lent.{items_in, running_leaves};
 ghost use Rattle.change_rewrites.specs.Raw.{item_of};
 ghost use Rattle.change_segment.specs.Raw.{Parting, PutIf, JoinedIf, Inside, Ready, MadeIn, MadeOf, new_of};
@@ -62,7 +63,7 @@ fn insert_in_place(m: &mut Making, w: Option<InPlace>, t: Stamp)
 
 // The joins around a sector that is written in place, if there is one.
 fn join_part(m: &mut Making, w: Option<InPlace>, generation: u64)
-    requires { ForSome w (λ w. Around w.rewrite.sector m.old.list.records.now m.old.segment × (0 < m.old.segment.count) × ((item_at m.old.buffer.now 0).key ≤ w.rewrite.sector)) }
+    requires { ForSome w (λ w. Reaching w.rewrite.sector m.old) }
     ensures joined { JoinedIf w generation m.old m.new }
     ensures stays { Stays m.old m.new }
 {

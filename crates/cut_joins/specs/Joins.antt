@@ -6,7 +6,7 @@ use Rattle.cut_def.specs.Pieces.{Piece, built, kept}
 use Rattle.cut_def.specs.Joins.{joinable, join_next, join_around}
 use Rattle.cut_segment.specs.declared.Segment.{Segment}
 use Rattle.cut_segment.specs.declared.making.Making.{Making}
-use Rattle.cut_segment.specs.Segments.{item_at, segment_of, pieces, Good}
+use Rattle.cut_segment.specs.Segments.{item_at, segment_of, pieces, Good, Around}
 
 -- an item joined with the one behind it, if they are joinable
 abbrev pub join_items : ℕ → Fields → List Fields → List Fields
@@ -77,3 +77,9 @@ JoinedBefore generation k m m' = Before generation m.list.records.now m.segment 
 
 abbrev pub JoinedAround : (generation sector : ℕ) → Making → Making → Type 0
 JoinedAround generation sector m m' = Joining generation sector m.list.records.now m.segment m.buffer.now m'.segment m'.buffer.now
+
+-- what joins around a sector ask: the list's records stand on their sides of it, and what is made starts at it or before
+pub record Reaching (sector : ℕ) (m : Making) : Type 0 where
+  pub around : Around sector m.list.records.now m.segment
+  pub some : 0 < m.segment.count
+  pub first : (item_at m.buffer.now 0).key ≤ sector

@@ -5,9 +5,9 @@ ghost use Rattle.std.specs.Prelude.{◌≡◌, true, ◌++◌, ◌+◌, ◌-◌,
 ghost use Rattle.records.specs.Lent.{old, new};
 ghost use Rattle.records.specs.Stages.{every};
 ghost use Rattle.item.specs.Items.{fields, items};
-ghost use Rattle.cut_segment.specs.Segments.{item_at, bounded, Around};
+ghost use Rattle.cut_segment.specs.Segments.{item_at, bounded};
 ghost use Rattle.cut_segment.specs.Making.{Stays};
-ghost use Rattle.cut_joins.specs.Joins.{Joined, Within, JoinedBehind, JoinedBefore, JoinedAround};
+ghost use Rattle.cut_joins.specs.Joins.{Joined, Within, JoinedBehind, JoinedBefore, JoinedAround, Reaching};
 
 use cut_segment::{Making, Segment, put_record, record_at};
 use item::{Item, RECORD};
@@ -47,10 +47,10 @@ fn join_within(seg: &mut [u8], k: usize, n: usize, generation: u64) -> usize
 // ---- `join_end` and `join_start`, `join_behind` and `join_before` move different bounds of the segment; what they share is
 // `joined` and `join_within`
 
-// The last item that is made joined with the list's record behind it.
-fn join_end(m: &mut Making, generation: u64)
-    requires { 0 < m.old.segment.count }
-    ensures joined { JoinedBehind generation (m.old.segment.count - 1) m.old m.new }
+// Item k of those that are made, the last one, joined with the list's record behind it.
+fn join_end(m: &mut Making, k: usize, generation: u64)
+    requires { k + 1 ≡ m.old.segment.count }
+    ensures joined { JoinedBehind generation k m.old m.new }
     ensures stays { Stays m.old m.new }
 {
     let s = m.segment;
@@ -58,11 +58,10 @@ fn join_end(m: &mut Making, generation: u64)
     if s.to == list.len() / RECORD {
         return;
     }
-    let last = s.count - 1;
-    let Some(item) = joined(m.item(last), record_at(list, s.to), generation) else {
+    let Some(item) = joined(m.item(k), record_at(list, s.to), generation) else {
         return;
     };
-    put_record(m.buffer, last, item);
+    put_record(m.buffer, k, item);
     m.segment = Segment { to: s.to + 1, ..s };
 }
 
@@ -74,7 +73,7 @@ fn join_behind(m: &mut Making, k: usize, generation: u64)
 {
     let s = m.segment;
     if k + 1 == s.count {
-        return join_end(m, generation);
+        return join_end(m, k, generation);
     }
     let n = join_within(m.buffer, k, s.count, generation);
     m.segment = Segment { count: n, ..s };
@@ -115,7 +114,7 @@ fn join_before(m: &mut Making, k: usize, generation: u64)
 // Around a sector written in place: the last item at or before it joined with the one behind it, and then with the one
 // before it.
 pub fn join_around(m: &mut Making, generation: u64, sector: u64)
-    requires { Around sector m.old.list.records.now m.old.segment × (0 < m.old.segment.count) × ((item_at m.old.buffer.now 0).key ≤ sector) }
+    requires { Reaching sector m.old }
     ensures joined { JoinedAround generation sector m.old m.new }
     ensures stays { Stays m.old m.new }
 {

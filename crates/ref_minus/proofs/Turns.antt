@@ -2,12 +2,17 @@
 use mathlib.Core.Path.{◌≡◌, refl, ap, ◌∙◌, sym}
 use mathlib.Core.Bool.{Bool, true, false, cond, not, ◌&&◌}
 use mathlib.Core.List.{List, [], ◌∷◌, ◌++◌}
-use Prim.Native.Nat.{ℕ, ◌+◌, ◌<◌, ◌≤◌}
+use Prim.Native.Nat.{ℕ, suc, ◌+◌, ◌-◌, ◌<◌, ◌≤◌}
 use native.Mathlib.Omega.{arith}
-use lib.Dec.{eqb}
-use lib.ListN.{length-map, length, get_or, take, drop, set, set, drop_of_length-le}
+use lib.Dec.{eqb, ltb}
+use lib.ListN.{length-map, length, length-drop, get_or, take, drop, set, set, drop_of_length-le}
+use lib.Seq.{take_all}
 use lib.Pointwise.{pointwise}
-use borrow.Author.Tests.{not-true, not-false}
+use borrow.Author.Tests.{ltb-false}
+use native.Mathlib.Numerals.{one-add}
+use Rattle.std.specs.Prelude.{Option, Some, None}
+use Rattle.std.specs.Option.{unwrap_or}
+use Rattle.std.specs.List.{position, position_or_len}
 use Rattle.std.proofs.lemmas.List.{at_drop_more, drop-map}
 use Rattle.ref_def.proofs.Compared.{minus_nil}
 use Rattle.records.specs.Select.{only, keep}
@@ -60,22 +65,38 @@ named_none extents fs e = rw e refl
 
 -- ---- pairs of numbers, compared
 
-pub skip_over : (x y : ℕ × ℕ) (l : List (ℕ × ℕ)) → upward (pair_ref x) (pair_ref y) ≡ false → past (pair_ref x) (pair_refs l) ≡ past (pair_ref x) (pair_refs (y ∷ l))
-unfolding past
-skip_over x y l h =
-    let b : ref_before (pair_ref y) (pair_ref x) ≡ true = not-false (ref_before (pair_ref y) (pair_ref x)) h in
-    rw b refl
+-- y is not before x
+abbrev pub not_before : ℕ × ℕ → ℕ × ℕ → Bool
+not_before x y = upward (pair_ref x) (pair_ref y)
 
-pub skip_stop : (x y : ℕ × ℕ) (l : List (ℕ × ℕ)) → upward (pair_ref x) (pair_ref y) ≡ true → pair_refs (y ∷ l) ≡ past (pair_ref x) (pair_refs (y ∷ l))
+pub skipped : (x : ℕ × ℕ) (l : List (ℕ × ℕ)) → past (pair_ref x) (pair_refs l) ≡ pair_refs (drop (position_or_len (not_before x) l) l)
 unfolding past
-skip_stop x y l h =
-    let b : ref_before (pair_ref y) (pair_ref x) ≡ false = not-true (ref_before (pair_ref y) (pair_ref x)) h in
-    rw b refl
+skipped x [] = refl
+skipped x (y ∷ l) = go (ref_before (pair_ref y) (pair_ref x)) (skipped x l)
+  where
+    go : (b : Bool) → past (pair_ref x) (pair_refs l) ≡ pair_refs (drop (position_or_len (not_before x) l) l)
+        → cond b (past (pair_ref x) (pair_refs l)) (pair_ref y ∷ pair_refs l) ≡ pair_refs (drop (cond (not (not b)) (1 + position_or_len (not_before x) l) 0) (y ∷ l))
+    go true ih = rw one-add ih
+    go false ih = refl
 
-pub skip_none : (x : ℕ × ℕ) (l : List (ℕ × ℕ)) → length l ≡ 0 → pair_refs l ≡ past (pair_ref x) (pair_refs l)
-unfolding past
-skip_none x [] h = refl
-skip_none x (y ∷ l) h = absurd (omega arith)
+not_past : (x : ℕ × ℕ) (l : List (ℕ × ℕ)) → position_or_len (not_before x) l ≤ length l
+not_past x [] = omega arith
+not_past x (y ∷ l) = go (not_before x y) (not_past x l)
+  where
+    go : (b : Bool) → position_or_len (not_before x) l ≤ length l → cond (not b) (1 + position_or_len (not_before x) l) 0 ≤ suc (length l)
+    go true h = omega arith
+    go false h = omega arith
+
+-- what a search and its default say
+pub skip_at : (x : ℕ × ℕ) (l : List (ℕ × ℕ)) (o : Option ℕ) (k : ℕ) → o ≡ position (not_before x) l → k ≡ unwrap_or o (length l) → pair_refs (take (length l - k) (drop k l)) ≡ past (pair_ref x) (pair_refs l)
+skip_at x l o k e d =
+    let n : ℕ = position_or_len (not_before x) l in
+    let at : k ≡ n = d ∙ ap (λ (o : Option ℕ). unwrap_or o (length l)) e ∙ go n (ltb n (length l)) refl (not_past x l) in
+    ap pair_refs (take_all (length l - k) (drop k l) (omega (arith, length-drop k l))) ∙ rw at (sym (skipped x l))
+  where
+    go : (n : ℕ) (b : Bool) → ltb n (length l) ≡ b → n ≤ length l → unwrap_or (cond b (Some n) None) (length l) ≡ n
+    go n true t h = refl
+    go n false t h = omega (arith, ltb-false n (length l) t)
 
 -- a prefix of one pair
 abbrev pub same_pair : ℕ × ℕ → ℕ × ℕ → Bool

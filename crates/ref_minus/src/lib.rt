@@ -2,14 +2,19 @@
 // walk along both.
 #![tactic(auto)]
 
+pub mod compared;
+
 ghost use Rattle.std.specs.Prelude.{◌≡◌, true, [], ◌∷◌, ◌+◌, ◌<◌, ◌≤◌, ◌^◌, length, take};
 ghost use Rattle.records.specs.Lent.{old, new};
 ghost use Rattle.item.specs.Items.{items};
 ghost use Rattle.ref_def.specs.Compared.{refs_among, minus};
 ghost use Rattle.plan_def.specs.Outputs.{ref_numbers};
 ghost use Rattle.plan_lines.specs.Lines.{Laid};
-ghost use Rattle.ref_sort.specs.Order.{ordered, pair_ref, pair_refs};
+ghost use Rattle.ref_sort.specs.Order.{ordered, upward, pair_ref, pair_refs};
 ghost use Rattle.ref_minus.specs.Walk.{past};
+ghost use Rattle.ref_minus.specs.Compared.{more_of};
+
+pub use compared::Compared;
 
 // ---- the references of a list
 
@@ -36,14 +41,11 @@ fn sorted_refs(list: &[u8], one: u64, two: u64, buf: &mut [(u64, u64)]) -> usize
 fn skip<'a>(ys: &'a [(u64, u64)], x: (u64, u64)) -> &'a [(u64, u64)]
     ensures { pair_refs result.now ≡ past (pair_ref x) (pair_refs ys.now) }
 {
-    let mut left = ys;
-    while let Some((y, behind)) = left.split_first() {
-        if *y >= x {
-            break;
-        }
-        left = behind;
-    }
-    left
+    let is_on = |y: &(u64, u64)| -> bool
+        ensures { result ≡ upward (pair_ref x) (pair_ref y.now) }
+    { *y >= x };
+    let at = ys.iter().position(is_on).unwrap_or(ys.len());
+    &ys[at..]
 }
 
 // The pairs of xs that are left without those of ys, as lines; both are in order.
@@ -64,58 +66,35 @@ fn put_minus(xs: &[(u64, u64)], ys: &[(u64, u64)], out: &mut [u64], n: usize) ->
     m
 }
 
-// A line for each reference to two extents that the items of x have more often than those of y, in order. The buffers are
-// lent, a pair for each item; what is left in them means nothing.
-fn put_difference(
-    x: &[u8],
-    y: &[u8],
-    one: u64,
-    two: u64,
-    xs: &mut [(u64, u64)],
-    ys: &mut [(u64, u64)],
-    out: &mut [u64],
-    n: usize,
-) -> usize
-    requires { (n + length (items x.now) < 2 ^ 64) × (length (items x.now) ≤ length xs.old) × (length (items y.now) ≤ length ys.old) }
-    ensures { Laid ref_numbers 2 n (minus (refs_among (one ∷ two ∷ []) (items x.now)) (refs_among (one ∷ two ∷ []) (items y.now))) out.old result out.new }
-{
-    let k = sorted_refs(x, one, two, xs);
-    let m = sorted_refs(y, one, two, ys);
-    put_minus(&xs[..k], &ys[..m], out, n)
-}
+impl<'a> Compared<'a> {
+    // The lines, where x has at most N records and y 32. It is not built into its caller, so a call with few records does not
+    // touch the stack that the buffer of a larger N takes.
+    #[inline(never)]
+    fn put_sized<const N: usize>(self, out: &mut [u64]) -> usize
+        requires { (length (items self.x.now) ≤ N) × (length (items self.y.now) ≤ 32) × (N ≤ 65536) }
+        ensures { Laid ref_numbers 2 self.entry.n (more_of self.entry) out.old result out.new }
+    {
+        let mut xs = [(0u64, 0u64); N];
+        let mut ys = [(0u64, 0u64); 32];
+        let k = sorted_refs(self.x, self.one, self.two, &mut xs);
+        let m = sorted_refs(self.y, self.one, self.two, &mut ys);
+        put_minus(&xs[..k], &ys[..m], out, self.n)
+    }
 
-// The same for at most N records of x and 32 of y. It is not built into its caller, so a call with few records does not touch
-// the stack that the buffer of a larger N takes.
-#[inline(never)]
-fn put_sized<const N: usize>(
-    x: &[u8],
-    y: &[u8],
-    one: u64,
-    two: u64,
-    out: &mut [u64],
-    n: usize,
-) -> usize
-    requires { (n + length (items x.now) < 2 ^ 64) × (length (items x.now) ≤ N) × (length (items y.now) ≤ 32) × (N ≤ 65536) }
-    ensures { Laid ref_numbers 2 n (minus (refs_among (one ∷ two ∷ []) (items x.now)) (refs_among (one ∷ two ∷ []) (items y.now))) out.old result out.new }
-{
-    let mut xs = [(0u64, 0u64); N];
-    let mut ys = [(0u64, 0u64); 32];
-    put_difference(x, y, one, two, &mut xs, &mut ys, out, n)
-}
-
-// The same for at most 65,536 records of x and 32 of y. The buffer is no longer than it need be, as it is zeroed.
-pub fn put_sorted(x: &[u8], y: &[u8], one: u64, two: u64, out: &mut [u64], n: usize) -> usize
-    requires { (n + length (items x.now) < 2 ^ 64) × (length (items x.now) ≤ 65536) × (length (items y.now) ≤ 32) }
-    ensures { Laid ref_numbers 2 n (minus (refs_among (one ∷ two ∷ []) (items x.now)) (refs_among (one ∷ two ∷ []) (items y.now))) out.old result out.new }
-{
-    let k = x.len() / item::RECORD;
-    if k <= 32 {
-        put_sized::<32>(x, y, one, two, out, n)
-    } else if k <= 1024 {
-        put_sized::<1024>(x, y, one, two, out, n)
-    } else if k <= 8192 {
-        put_sized::<8192>(x, y, one, two, out, n)
-    } else {
-        put_sized::<65536>(x, y, one, two, out, n)
+    // The same for at most 65,536 records of x and 32 of y. The buffer is no longer than it need be, as it is zeroed.
+    pub fn put_sorted(self, out: &mut [u64]) -> usize
+        requires { (length (items self.x.now) ≤ 65536) × (length (items self.y.now) ≤ 32) }
+        ensures { Laid ref_numbers 2 self.entry.n (more_of self.entry) out.old result out.new }
+    {
+        let k = self.x.len() / item::RECORD;
+        if k <= 32 {
+            self.put_sized::<32>(out)
+        } else if k <= 1024 {
+            self.put_sized::<1024>(out)
+        } else if k <= 8192 {
+            self.put_sized::<8192>(out)
+        } else {
+            self.put_sized::<65536>(out)
+        }
     }
 }

@@ -1,16 +1,15 @@
 use Rattle.cut_joins.proofs.Joining.{end_none, end-yes}
 use Rattle.cut_joins.proofs.Pairs.{bounded_of}
-use Rattle.cut_joins.specs.Joins.{Behind}
 use Rattle.item.proofs.Laws.{items-length}
 use Rattle.item.specs.Items.{Fields, items}
 use lib.ListN.{length, set}
-use Prim.Native.Nat.{◌+◌, ◌-◌, ◌<◌}
-use mathlib.Core.Path.{◌≡◌, ◌∙◌, ap}
+use Prim.Native.Nat.{◌<◌}
+use mathlib.Core.Path.{◌∙◌, ap}
 use native.Mathlib.Omega.{arith}
 use Rattle.cut_joins.proofs.join_end.Goals as goal
 
 pub returns-then-s-list-clause-joined : goal.returns-then-s-list-clause-joined
-returns-then-s-list-clause-joined c = let m = c.args.m.now in end_none _ _ _ _ _ m.good (omega (arith, c.requires)) c.if-s-list.true
+returns-then-s-list-clause-joined c = let m = c.args.m.now in end_none _ _ _ _ _ m.good c.requires c.if-s-list.true
 
 pub record_at-requires : goal.record_at-requires
 record_at-requires c = let m = c.args.m.now in omega (arith, m.good.inside, items-length m.list.records.now)
@@ -25,15 +24,13 @@ pub invariant_of-m : goal.invariant_of-m
 invariant_of-m c =
     let m = c.args.m.now in
     let j = c.joined.ensures.there _ c.in-Some.is in
-    let h : m.segment.count - 1 + 1 ≡ m.segment.count = omega (arith, c.requires) in
     let lt : m.segment.to < length (items m.list.records.now) = omega (arith, m.good.inside, items-length m.list.records.now, c.if-s-list.false) in
-    let b = end-yes c.args.generation _ _ _ _ m.good h _ _ c.item.ensures c.record_at.ensures lt c.put_record.new.seg j.0 (c.put_record.ensures ∙ ap (λ (f : Fields). set (items m.buffer.now) (m.segment.count - 1) f) j.1) in
+    let b = end-yes c.args.generation _ _ _ _ m.good c.requires _ _ c.item.ensures c.record_at.ensures lt c.put_record.new.seg j.0 (c.put_record.ensures ∙ ap (λ (f : Fields). set (items m.buffer.now) c.args.k f) j.1) in
     record { good = b.good }
 
 pub returns-clause-joined : goal.returns-clause-joined
 returns-clause-joined c =
     let m = c.args.m.now in
     let j = c.joined.ensures.there _ c.in-Some.is in
-    let h : m.segment.count - 1 + 1 ≡ m.segment.count = omega (arith, c.requires) in
     let lt : m.segment.to < length (items m.list.records.now) = omega (arith, m.good.inside, items-length m.list.records.now, c.if-s-list.false) in
-    end-yes _ _ _ _ _ m.good h _ _ c.item.ensures c.record_at.ensures lt _ j.0 (c.put_record.ensures ∙ ap (λ (f : Fields). set (items m.buffer.now) (m.segment.count - 1) f) j.1)
+    end-yes _ _ _ _ _ m.good c.requires _ _ c.item.ensures c.record_at.ensures lt _ j.0 (c.put_record.ensures ∙ ap (λ (f : Fields). set (items m.buffer.now) c.args.k f) j.1)
