@@ -98,7 +98,7 @@ fn main(rt: HostRuntime) -> io::Result<()> {
     }
     if n == 65536 {
         // "more bytes `(line 0)`"
-        return rt.write_all(print_answer::fault_line(0).bytes());
+        return rt.write_all(print_line::fault_line(0).bytes());
     }
     Err(io::Error::other("read"))
 }

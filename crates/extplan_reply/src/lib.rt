@@ -44,6 +44,6 @@ pub fn reply_line(
 {
     match reply {
         Ok(answer) => print_answer::answer_line(answer, out, n),
-        Err(fault) => print_answer::only_line(print_answer::fault_line(fault as u64), n),
+        Err(fault) => print_answer::only_line(print_line::fault_line(fault as u64), n),
     }
 }

@@ -3,10 +3,8 @@
 #![tactic(auto)]
 
 ghost use Rattle.std.specs.Prelude.{◌≡◌, [], ◌∷◌};
-ghost use Rattle.records.specs.Refusals.{number};
 ghost use Rattle.request.specs.Answers.{said};
 ghost use Rattle.plan_def.specs.Outputs.{outs_in};
-ghost use Rattle.print_line.specs.Lines.{nothing_line, refused_line, fault_line, plan_line};
 ghost use Rattle.print_answer.specs.Printed.{plan_lines, plan_in, shown, line_at, Holds, HoldsAnswer};
 
 use plan_def::Outputs;
@@ -14,45 +12,6 @@ use print_field::Line;
 use print_output::{add_line, edit_line, ref_line, write_line};
 use records::refusal::Refusal;
 use request::Numbers;
-
-// A plan's first line.
-#[tactic(auto, using(print_line::proofs::Bounds::plan_whole))]
-fn plan_line(size: u64, bytes: u64, prealloc: bool) -> Line
-    ensures { result ≡ plan_line size bytes prealloc }
-{
-    let mut line = Line::new();
-    print_line::put_plan(&mut line, size, bytes, prealloc);
-    line
-}
-
-// The one line of nothing to do.
-fn nothing_line() -> Line
-    ensures { result ≡ nothing_line }
-{
-    let mut line = Line::new();
-    print_line::put_nothing(&mut line);
-    line
-}
-
-// The one line of a refusal.
-#[tactic(auto, using(print_line::proofs::Bounds::number_whole))]
-fn refused_line(refusal: Refusal) -> Line
-    ensures { result ≡ refused_line (number refusal) }
-{
-    let mut line = Line::new();
-    print_line::put_refused(&mut line, refusal);
-    line
-}
-
-// What is printed, instead of an answer, for input whose line n is at fault.
-#[tactic(auto, using(print_line::proofs::Bounds::number_whole))]
-pub fn fault_line(n: u64) -> Line
-    ensures { result ≡ fault_line n }
-{
-    let mut line = Line::new();
-    print_line::put_fault(&mut line, n);
-    line
-}
 
 // Line n of a single one.
 #[tactic(auto, using(crate::proofs::Nth::nth))]
@@ -78,7 +37,7 @@ impl Laid<'_, '_> {
     {
         let (p, out) = (self.numbers, self.out);
         if n == 0 {
-            return plan_line(p.size, p.bytes, p.prealloc);
+            return print_line::plan_line(p.size, p.bytes, p.prealloc);
         }
         let n = n - 1;
         if n < p.edits {
@@ -116,7 +75,7 @@ pub fn answer_line(answer: Result<Option<Numbers>, Refusal>, out: &Outputs, n: u
 {
     match answer {
         Ok(Some(numbers)) => Laid { numbers, out }.line(n),
-        Ok(None) => only_line(nothing_line(), n),
-        Err(refusal) => only_line(refused_line(refusal), n),
+        Ok(None) => only_line(print_line::nothing_line(), n),
+        Err(refusal) => only_line(print_line::refused_line(refusal), n),
     }
 }

@@ -1,14 +1,15 @@
 -- How long the line of an item that is put can be. Assumes nothing.
 use mathlib.Core.Path.{◌≡◌}
+use mathlib.Core.List.{[]}
 use Prim.Native.Nat.{◌≤◌}
 use native.Mathlib.Omega.{arith}
-use lib.ListN.{length, take}
-use lib.Seq.{take_all}
+use lib.ListN.{length}
 use Rattle.endian.specs.Le.{room}
 use Rattle.read_field.specs.Words.{bytes as text}
 use Rattle.print_field.specs.Text.{decimal}
+use Rattle.print_field.specs.Added.{added}
 use Rattle.print_field.proofs.Decimal.{length_64, length_16, length_8}
-use Rattle.print_field.proofs.Parts.{length_parts, length_none}
+use Rattle.print_field.proofs.Parts.{length_parts, length_none, whole}
 use Rattle.print_field.proofs.Laws.{length-field, length-pair, length-unless-zero}
 use Rattle.item.specs.Items.{Fields, Sound}
 use Rattle.print_field.specs.Puts.{item_fields, added_fields, put_line}
@@ -43,6 +44,6 @@ short_added f s =
     ))
 
 -- with its end; an item of the largest numbers reaches it
-pub put_whole : (f : Fields) → Sound f → take 256 (put_line f) ≡ put_line f
+pub put_whole : (f : Fields) → Sound f → put_line f ≡ added [] (put_line f)
 unfolding put_line
-put_whole f s = take_all 256 (put_line f) (simp (length_parts, length_none) (omega (arith, short_item f s, short_added f s)))
+put_whole f s = whole (put_line f) (simp (length_parts, length_none) (omega (arith, short_item f s, short_added f s)))

@@ -8,6 +8,7 @@ use lib.Seq.{take_all, length-take-le, take-append-add, take-append_seam}
 use borrow.Rule.Slice.PartMut.{put_mid}
 use Rattle.std.proofs.lemmas.List.{take_min}
 use Rattle.print_field.specs.Text.{joined}
+use Rattle.print_field.specs.Added.{added}
 
 -- ---- how long they are
 
@@ -28,7 +29,8 @@ take-again (suc n) [] b = refl
 take-again (suc n) (x ∷ a) b = ap (λ (l : List ℕ). x ∷ l) (take-again n a b)
 
 -- a text's first bytes, copied over the part behind the u bytes that there are
-pub text_kept : (b t part : List ℕ) (u m : ℕ) → length b ≡ 256 → u ≤ 256 → m ≡ min (256 - u) (length t) → part ≡ take m t → take (u + m) (put_mid u (u + m - u) b part) ≡ take 256 (take u b ++ t)
+pub text_kept : (b t part : List ℕ) (u m : ℕ) → length b ≡ 256 → u ≤ 256 → m ≡ min (256 - u) (length t) → part ≡ take m t → take (u + m) (put_mid u (u + m - u) b part) ≡ added (take u b) t
+unfolding added
 text_kept b t part u m w h e p =
     let v : length (take u b) ≡ u = length-take-le u b (omega arith) in
     let r : u + (256 - u) ≡ 256 = omega arith in
@@ -38,18 +40,24 @@ text_kept b t part u m w h e p =
     let g : take (length (take u b ++ part)) (take u b ++ (part ++ e)) ≡ take u b ++ part = rw append_assoc at (take-append_seam (take u b ++ part) e) in
     rw n at g ∙ rw k refl ∙ sym (rw (v, r) at (take-append-add (take u b) t (256 - u)))
 
--- nothing behind them
-pub nothing_kept : (b : List ℕ) (u : ℕ) → u ≤ 256 → take 256 (take u b ++ []) ≡ take u b
+-- nothing more
+pub nothing_kept : (b : List ℕ) (u : ℕ) → u ≤ 256 → added (take u b) [] ≡ take u b
+unfolding added
 nothing_kept b u h = rw append-nil (take_all 256 (take u b) (omega (arith, length-take u b)))
 
 -- a part, and those behind it
-pub part-more : (a p q : List ℕ) (ps : List (List ℕ)) → take 256 (a ++ joined (p ∷ q ∷ ps)) ≡ take 256 (take 256 (a ++ p) ++ joined (q ∷ ps))
-unfolding joined
+pub part-more : (a p q : List ℕ) (ps : List (List ℕ)) → added a (joined (p ∷ q ∷ ps)) ≡ added (added a p) (joined (q ∷ ps))
+unfolding joined added
 part-more a p q ps = sym (take-again 256 (a ++ p) (joined (q ∷ ps)) ∙ ap (take 256) (append_assoc a p (joined (q ∷ ps))))
 
-pub part-last : (a p : List ℕ) → take 256 (a ++ joined (p ∷ [])) ≡ take 256 (a ++ p)
+pub part-last : (a p : List ℕ) → added a (joined (p ∷ [])) ≡ added a p
 unfolding joined
 part-last a p = rw append-nil refl
 
--- what appending one by one is proved by
+-- what adding one by one is proved by
 pub ruleset parts = (part-more, part-last)
+
+-- a line that is not too long
+pub whole : (l : List ℕ) → length l ≤ 256 → l ≡ added [] l
+unfolding added
+whole l h = sym (take_all 256 l h)

@@ -4,6 +4,7 @@
 
 ghost use Rattle.std.specs.Prelude.{◌≡◌, ◌≤◌, ◌++◌, List, [], ℕ, length, take};
 ghost use Rattle.print_field.specs.Text.{decimal};
+ghost use Rattle.print_field.specs.Added.{added};
 ghost use Rattle.print_field.specs.Fields.{spaced, field, pair, unless_zero};
 ghost use Rattle.item.specs.Items.{fields};
 ghost use Rattle.print_field.specs.Puts.{item_fields, added_fields, put_line};
@@ -36,6 +37,15 @@ impl Line {
         }
     }
 
+    // A line that begins with a text.
+    pub fn of(text: &[u8]) -> Self
+        ensures { result ≡ added [] text.now }
+    {
+        let mut line = Line::new();
+        line.text(text);
+        line
+    }
+
     pub fn bytes(&self) -> &[u8]
         ensures { result.now ≡ self.now }
     {
@@ -44,7 +54,7 @@ impl Line {
 
     // A text.
     pub fn text(&mut self, text: &[u8])
-        ensures { self.new ≡ take 256 (self.old ++ text.now) }
+        ensures { self.new ≡ added self.old text.now }
     {
         let n = (256 - self.used).min(text.len());
         self.bytes[self.used..self.used + n].copy_from_slice(&text[..n]);
@@ -54,7 +64,7 @@ impl Line {
     // A number.
     #[tactic(auto, using(crate::proofs::Decimal::as_written))]
     pub fn number(&mut self, n: u64)
-        ensures { self.new ≡ take 256 (self.old ++ decimal n) }
+        ensures { self.new ≡ added self.old (decimal n) }
     {
         let mut buffer = itoa::Buffer::new();
         self.text(buffer.format(n).as_bytes());
@@ -62,7 +72,7 @@ impl Line {
 
     // A space and a number.
     pub fn spaced(&mut self, n: u64)
-        ensures { self.new ≡ take 256 (self.old ++ spaced n) }
+        ensures { self.new ≡ added self.old (spaced n) }
     {
         self.text(b" ");
         self.number(n);
@@ -70,7 +80,7 @@ impl Line {
 
     // A field with one number.
     pub fn field(&mut self, name: &[u8], n: u64)
-        ensures { self.new ≡ take 256 (self.old ++ field name.now n) }
+        ensures { self.new ≡ added self.old (field name.now n) }
     {
         self.text(b" (");
         self.text(name);
@@ -80,7 +90,7 @@ impl Line {
 
     // A field with two numbers.
     pub fn pair(&mut self, name: &[u8], n: u64, m: u64)
-        ensures { self.new ≡ take 256 (self.old ++ pair name.now n m) }
+        ensures { self.new ≡ added self.old (pair name.now n m) }
     {
         self.text(b" (");
         self.text(name);
@@ -90,9 +100,9 @@ impl Line {
     }
 
     // A field with one number, where that is not 0.
-    #[tactic(auto, using(crate::proofs::Parts::nothing_kept), unfolding(crate::specs::Fields::unless_zero))]
+    #[tactic(auto, using(crate::proofs::Parts::nothing_kept), unfolding(crate::specs::Fields::unless_zero, crate::specs::Added::added))]
     pub fn unless_zero(&mut self, name: &[u8], n: u64)
-        ensures { self.new ≡ take 256 (self.old ++ unless_zero name.now n) }
+        ensures { self.new ≡ added self.old (unless_zero name.now n) }
     {
         let _ = &self.used; // a line is not longer than it may be
         if n != 0 {
@@ -102,7 +112,7 @@ impl Line {
 
     // The fields that every put has.
     fn item_fields(&mut self, item: Item)
-        ensures { self.new ≡ take 256 (self.old ++ item_fields (fields item)) }
+        ensures { self.new ≡ added self.old (item_fields (fields item)) }
     {
         self.field(b"key", item.key);
         self.field(b"kind", item.kind_byte() as u64);
@@ -112,7 +122,7 @@ impl Line {
 
     // The fields that it has where they are not 0.
     fn added_fields(&mut self, item: Item)
-        ensures { self.new ≡ take 256 (self.old ++ added_fields (fields item)) }
+        ensures { self.new ≡ added self.old (added_fields (fields item)) }
     {
         self.unless_zero(b"generation", item.generation());
         self.unless_zero(b"ram", item.ram());
@@ -123,7 +133,7 @@ impl Line {
 
     // The line of an item that is put.
     pub fn put(&mut self, item: Item)
-        ensures { self.new ≡ take 256 (self.old ++ put_line (fields item)) }
+        ensures { self.new ≡ added self.old (put_line (fields item)) }
     {
         self.text(b"(put");
         self.item_fields(item);

@@ -1,7 +1,8 @@
-// The lines that extplan prints, each appended to a line that is put together.
-#![tactic(auto, using(print_field::proofs::Parts::parts), unfolding(crate::specs::Lines::number_line, crate::specs::Lines::plan_line, crate::specs::Lines::delete_line, crate::specs::Lines::ref_line, crate::specs::Lines::add_line, crate::specs::Lines::write_line))]
+// The lines that extplan prints, each put together of its parts.
+#![tactic(auto, using(print_field::proofs::Parts::parts, crate::proofs::Bounds::wholes))]
 
-ghost use Rattle.std.specs.Prelude.{◌≡◌, ◌++◌, take};
+ghost use Rattle.std.specs.Prelude.{◌≡◌, ◌≤◌};
+ghost use lib.ListN.{length};
 ghost use Rattle.records.specs.Refusals.{number};
 ghost use Rattle.print_line.specs.Lines.{nothing_line, number_line, refused_line, fault_line, plan_line, delete_line, ref_line, add_line, write_line};
 
@@ -9,83 +10,92 @@ use print_field::Line;
 use records::refusal::Refusal;
 
 // Nothing to do.
-pub fn put_nothing(line: &mut Line)
-    ensures { line.new ≡ take 256 (line.old ++ nothing_line) }
+#[tactic(auto, unfolding(print_field::specs::Added::added))]
+pub fn nothing_line() -> Line
+    ensures { result ≡ nothing_line }
 {
-    line.text(b"(nothing)\n");
+    Line::of(b"(nothing)\n")
 }
 
 // A word and a number.
-fn put_number_line(line: &mut Line, word: &[u8], n: u64)
-    ensures { line.new ≡ take 256 (line.old ++ number_line word.now n) }
+fn number_line(word: &[u8], n: u64) -> Line
+    requires { length word.now ≤ 8 }
+    ensures { result ≡ number_line word.now n }
 {
-    line.text(word);
+    let mut line = Line::of(word);
     line.spaced(n);
     line.text(b")\n");
+    line
 }
 
 // A refusal.
-pub fn put_refused(line: &mut Line, refusal: Refusal)
-    ensures { line.new ≡ take 256 (line.old ++ refused_line (number refusal)) }
+pub fn refused_line(refusal: Refusal) -> Line
+    ensures { result ≡ refused_line (number refusal) }
 {
-    put_number_line(line, b"(refused", refusal.number() as u64);
+    number_line(b"(refused", refusal.number() as u64)
 }
 
 // An input line that can't be read.
-pub fn put_fault(line: &mut Line, n: u64)
-    ensures { line.new ≡ take 256 (line.old ++ fault_line n) }
+pub fn fault_line(n: u64) -> Line
+    ensures { result ≡ fault_line n }
 {
-    put_number_line(line, b"(line", n);
+    number_line(b"(line", n)
 }
 
 // A plan's first line.
-pub fn put_plan(line: &mut Line, size: u64, bytes: u64, prealloc: bool)
-    ensures { line.new ≡ take 256 (line.old ++ plan_line size bytes prealloc) }
+pub fn plan_line(size: u64, bytes: u64, prealloc: bool) -> Line
+    ensures { result ≡ plan_line size bytes prealloc }
 {
-    line.text(b"(plan");
+    let mut line = Line::of(b"(plan");
     line.field(b"size", size);
     line.field(b"bytes", bytes);
     line.field(b"prealloc", u64::from(prealloc));
     line.text(b")\n");
+    line
 }
 
 // An item that is deleted.
-pub fn put_delete(line: &mut Line, key: u64)
-    ensures { line.new ≡ take 256 (line.old ++ delete_line key) }
+pub fn delete_line(key: u64) -> Line
+    ensures { result ≡ delete_line key }
 {
-    line.text(b"(delete");
+    let mut line = Line::of(b"(delete");
     line.field(b"key", key);
     line.text(b")\n");
+    line
 }
 
 // A reference, under the word of its line.
-pub fn put_ref(line: &mut Line, word: &[u8], start: u64, offset: u64)
-    ensures { line.new ≡ take 256 (line.old ++ ref_line word.now (record { start = start; offset = offset })) }
+pub fn ref_line(word: &[u8], start: u64, offset: u64) -> Line
+    requires { length word.now ≤ 8 }
+    ensures { result ≡ ref_line word.now (record { start = start; offset = offset }) }
 {
-    line.text(word);
+    let mut line = Line::of(word);
     line.field(b"at", start);
     line.field(b"ref", offset);
     line.text(b")\n");
+    line
 }
 
 // A new extent.
-pub fn put_add(line: &mut Line, start: u64, length: u64, key: u64)
-    ensures { line.new ≡ take 256 (line.old ++ add_line (record { start = start; length = length; key = key })) }
+pub fn add_line(start: u64, length: u64, key: u64) -> Line
+    ensures { result ≡ add_line (record { start = start; length = length; key = key }) }
 {
-    line.text(b"(add");
+    let mut line = Line::of(b"(add");
     line.field(b"at", start);
     line.field(b"len", length);
     line.field(b"key", key);
     line.text(b")\n");
+    line
 }
 
 // A sector write.
-pub fn put_write(line: &mut Line, key: u64, at: u64, first: u64, end: u64)
-    ensures { line.new ≡ take 256 (line.old ++ write_line (record { key = key; at = at; first = first; end = end })) }
+pub fn write_line(key: u64, at: u64, first: u64, end: u64) -> Line
+    ensures { result ≡ write_line (record { key = key; at = at; first = first; end = end }) }
 {
-    line.text(b"(write");
+    let mut line = Line::of(b"(write");
     line.field(b"key", key);
     line.field(b"at", at);
     line.pair(b"zero", first, end);
     line.text(b")\n");
+    line
 }

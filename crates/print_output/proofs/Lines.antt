@@ -1,21 +1,21 @@
 -- One line of an output: what is read and printed, and that it is whole. Assumes nothing.
-use mathlib.Core.Path.{◌≡◌, refl, ◌∙◌, sym}
-use mathlib.Core.Bool.{Bool, true, false}
-use mathlib.Core.List.{List}
+use mathlib.Core.Path.{◌≡◌, refl}
+use mathlib.Core.Bool.{true, false}
+use mathlib.Core.List.{List, []}
 use Prim.Native.Nat.{ℕ, ◌+◌, ◌*◌}
 use native.Mathlib.Nat.{add-zero}
 use lib.Dec.{eqb}
-use lib.ListN.{get_or, take, drop}
+use lib.ListN.{get_or, drop}
 use lib.Seq.{get_or-drop}
-use Rattle.endian.specs.Le.{room, Bytes}
+use Rattle.endian.specs.Le.{Bytes}
 use Rattle.endian.proofs.Fields.{bytes_drop}
-use Rattle.item.specs.Items.{Fields, Sound, decode}
+use Rattle.item.specs.Items.{decode}
 use Rattle.item.proofs.Runs.{decode-sound}
+use Rattle.print_field.specs.Added.{added}
 use Rattle.print_field.specs.Puts.{put_line}
 use Rattle.print_field.proofs.Bounds.{put_whole}
 use Rattle.plan_def.specs.ReadBack.{edit_in, ref_in, add_in, write_in}
 use Rattle.print_line.specs.Lines.{delete_line, edit_line}
-use Rattle.print_line.proofs.Bounds.{delete_whole}
 
 -- ---- lines of numbers, as the code reads them
 module _ (s : List ℕ) (n : ℕ) where
@@ -31,18 +31,17 @@ module _ (s : List ℕ) (n : ℕ) where
   unfolding write_in
   write_read = rw (get_or-drop (n * 4) s 0 0, get_or-drop (n * 4) s 1 0, get_or-drop (n * 4) s 2 0, get_or-drop (n * 4) s 3 0, add-zero) refl
 
--- ---- an edit
+-- ---- an edit, by its tag
 
-module _ (s : List ℕ) (f : Fields) (e : f ≡ decode (drop 1 s)) (b : Bytes s) where
-  sound : Sound f
-  sound = rw e (decode-sound (drop 1 s) (bytes_drop 1 s b))
+module _ (s : List ℕ) where
+  pub edit_put : eqb (get_or s 0 0) 1 ≡ true → edit_line (edit_in s) ≡ put_line (decode (drop 1 s))
+  unfolding edit_in
+  edit_put h = rw h refl
 
-  -- its tag in code
-  module _ (t : Bool) (h : t ≡ eqb (get_or s 0 0) 1) where
-    pub edit-put : t ≡ true → take 256 (put_line f) ≡ edit_line (edit_in s)
-    unfolding edit_in
-    edit-put y = put_whole f sound ∙ rw (sym h ∙ y, e) refl
+  pub edit_delete : eqb (get_or s 0 0) 1 ≡ false → edit_line (edit_in s) ≡ delete_line (decode (drop 1 s)).key
+  unfolding edit_in
+  edit_delete h = rw h refl
 
-    pub edit-delete : t ≡ false → take 256 (delete_line f.key) ≡ edit_line (edit_in s)
-    unfolding edit_in room
-    edit-delete y = delete_whole f.key sound.key ∙ rw (sym h ∙ y, e) refl
+  -- its item's line is whole
+  pub item_whole : Bytes s → put_line (decode (drop 1 s)) ≡ added [] (put_line (decode (drop 1 s)))
+  item_whole b = put_whole (decode (drop 1 s)) (decode-sound (drop 1 s) (bytes_drop 1 s b))
