@@ -5,7 +5,7 @@ use Prim.Native.Nat.{ℕ, ◌+◌, ◌*◌, ◌/◌, ◌≤◌, ◌<◌}
 use native.Mathlib.Omega.{arith}
 use native.Mathlib.Nat.{mul-one}
 use lib.ListN.{length, get_or, length-append}
-use Rattle.endian.specs.Le.{enc, put}
+use Rattle.endian.specs.Le.{put}
 use Rattle.endian.proofs.Numbers.{length-enc}
 use Rattle.endian.proofs.Puts.{put-put}
 use Rattle.item.specs.Items.{encode}
@@ -23,38 +23,6 @@ pub put_then :
     → d'' ≡ put ys (at + k) d'
     → d'' ≡ put (xs ++ ys) at d
 put_then xs ys at k d d' d'' l h p q = q ∙ rw p (put-put xs ys at k d l h)
-
-pub eights-put :
-    (a b at : ℕ) (d d1 d2 : List ℕ)
-    → at + 16 ≤ length d
-    → d1 ≡ put (enc 8 a) at d
-    → d2 ≡ put (enc 8 b) (at + 8) d1
-    → d2 ≡ put (eights a b) at d
-eights-put a b at d d1 d2 h p q = put_then (enc 8 a) (enc 8 b) at 8 d d1 d2 (length-enc 8 a) (simp length-enc (omega arith)) p q
-
-pub key-put :
-    (file key at : ℕ) (d d1 d2 d3 : List ℕ)
-    → at + 17 ≤ length d
-    → d1 ≡ put (enc 8 file) at d
-    → d2 ≡ put (enc 1 108) (at + 8) d1
-    → d3 ≡ put (enc 8 key) (at + 9) d2
-    → d3 ≡ put (key_bytes file key) at d
-key-put file key at d d1 d2 d3 h p q r =
-    let e : d2 ≡ put (enc 8 file ++ enc 1 108) at d = put_then (enc 8 file) (enc 1 108) at 8 d d1 d2 (length-enc 8 file) (simp length-enc (omega arith)) p q in
-    put_then (enc 8 file ++ enc 1 108) (enc 8 key) at 9 d d2 d3 (simp (length-append, length-enc)) (simp length-enc (omega arith)) e r
-
-pub codes-put :
-    (x y z w at : ℕ) (d d1 d2 d3 d4 : List ℕ)
-    → at + 5 ≤ length d
-    → d1 ≡ put (enc 1 x) at d
-    → d2 ≡ put (enc 1 y) (at + 1) d1
-    → d3 ≡ put (enc 2 z) (at + 2) d2
-    → d4 ≡ put (enc 1 w) (at + 4) d3
-    → d4 ≡ put (code_bytes x y z w) at d
-codes-put x y z w at d d1 d2 d3 d4 h p q r s =
-    let e : d2 ≡ put (enc 1 x ++ enc 1 y) at d = put_then (enc 1 x) (enc 1 y) at 1 d d1 d2 (length-enc 1 x) (simp length-enc (omega arith)) p q in
-    let f : d3 ≡ put (enc 1 x ++ enc 1 y ++ enc 2 z) at d = put_then (enc 1 x ++ enc 1 y) (enc 2 z) at 2 d d2 d3 (simp (length-append, length-enc)) (simp length-enc (omega arith)) e r in
-    put_then (enc 1 x ++ enc 1 y ++ enc 2 z) (enc 1 w) at 4 d d3 d4 (simp (length-append, length-enc)) (simp length-enc (omega arith)) f s
 
 -- the groups of an item's bytes, one behind the other
 pub record-put :
@@ -91,3 +59,6 @@ module _ {A : Type 0} (f : A → List ℕ) (w n : ℕ) (a : A) (out : List ℕ) 
 -- one number a line
 pub one_place : (vs : List ℕ) (n : ℕ) (out out' : List ℕ) → out' ≡ put vs n out → out' ≡ put vs (n * 1) out
 one_place vs n out out' e = rw mul-one e
+
+-- what each write is proved by
+pub ruleset puts = (put_then, length-enc, length-append, record-put, kept_full, kept-one, one_place)

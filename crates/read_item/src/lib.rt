@@ -1,6 +1,6 @@
 // An item line of extplan's input stored as a record and a shared byte. As with a plan's lines, one that finds no room is
 // counted and not written.
-#![tactic(auto)]
+#![tactic(auto, using(crate::proofs::Laws::puts))]
 
 ghost use Rattle.std.specs.Prelude.{◌≡◌, ◌+◌, ◌≤◌, [], ◌∷◌, length};
 ghost use Rattle.records.specs.Lent.{old, new};
