@@ -1,14 +1,14 @@
 -- Back to front: the last of the records in front and of what is put, one by one. Assumes nothing.
 use mathlib.Core.Path.{◌≡◌, refl, ap, ap₂, ◌∙◌, sym}
-use mathlib.Core.Bool.{Bool, true, false, cond, false≢true}
+use mathlib.Core.Bool.{Bool, true, false, cond}
 use mathlib.Core.List.{List, [], ◌∷◌, ◌++◌, map, flat_map, map-append, append_assoc, append-nil}
-use Prim.Native.Nat.{ℕ, zero, suc, ◌+◌, ◌-◌, ◌*◌, ◌/◌, ◌≤◌, ◌<◌}
+use Prim.Native.Nat.{ℕ, suc, ◌+◌, ◌-◌, ◌*◌, ◌/◌, ◌≤◌, ◌<◌}
 use native.Mathlib.Omega.{arith}
 use native.Mathlib.Nat.{add-zero}
 use lib.Dec.{eqb, leb, ltb}
 use lib.ListN.{length, get_or, take, drop, set, length-append, length-take, length-map, take-append-drop}
 use lib.Seq.{take-suc, take-take, take-set-le, get_or-take}
-use borrow.Author.Tests.{ltb-true, ltb-false, leb-true, lt-ltb, le-leb, le-ltb}
+use borrow.Author.Tests.{ltb-true, leb-true, lt-ltb, le-leb, le-ltb}
 use Rattle.cut_def.proofs.Mappings.{items_kept}
 use Rattle.std.specs.List.{count_by}
 use Rattle.std.proofs.lemmas.List.Recursion.{is_count_by}
@@ -23,14 +23,13 @@ use Rattle.cut_def.specs.Pieces.{Piece, built, kept, items_of, insert, insert_al
 use Rattle.cut_def.specs.Edits.{Edit, put, delete, key_of, put_of}
 use Rattle.cut_def.proofs.Kept.{every-insert_all}
 use Rattle.cut_def.proofs.Inserts.{insert_all-length}
-use Rattle.cut_segment.specs.Segments.{nothing}
 use Rattle.item.proofs.Widths.{length-encode}
 use Rattle.apply_def.specs.Apply.{edits_rise}
 use Rattle.plan_def.specs.ReadBack.{edit_in}
 use Rattle.apply_def.specs.Buffers.{Same}
 use Rattle.apply_def.proofs.Buffers.{same_self, same-put, drop-set}
 use Rattle.apply_walk.proofs.Merge.{put_read, delete_read}
-use Rattle.apply_items.specs.Passes.{IsPut, puts_in, merged, last_over, Filling}
+use Rattle.apply_items.specs.Passes.{IsPut, puts_in, merged, Filling}
 
 -- ---- one more at the end
 
@@ -114,30 +113,6 @@ merged-length fs es =
     length-map (insert_all (puts_in es) (map kept fs)) (λ (p : Piece). p.item)
     ∙ omega (arith, insert_all-length (puts_in es) (map kept fs), length-map fs kept)
 
--- ---- the last of the first i records
-
-pub over-true : (k i : ℕ) (fs : List Fields) → last_over k i fs ≡ true → (0 < i) × (k < (get_or fs (i - 1) nothing).key)
-over-true k zero fs h = absurd (false≢true h)
-over-true k (suc i) fs h =
-    let n : suc i - 1 ≡ i = omega arith in
-    (omega arith, rw n (ltb-true k (get_or fs i nothing).key h))
-
--- what the code reads
-pub over-some : (list : List ℕ) (i k : ℕ) (o : Item) → 0 < i → i ≤ length list / 70 → o ≡ item_of (drop ((i - 1) * 70) list) → ltb k o.key ≡ last_over k i (items list)
-over-some list zero k o h l e = absurd (omega arith)
-over-some list (suc i) k o h l e =
-    let n : suc i - 1 ≡ i = omega arith in
-    let f : fields o ≡ decode (drop (i * 70) list) = rw n at (item-decode o _ e) in
-    ap (λ (f : Fields). ltb k f.key) (f ∙ sym (items_at list i nothing (omega arith)))
-
-over_false : (k i : ℕ) (fs : List Fields) → i ≤ length fs → pairs rises (take i fs) ≡ true → last_over k i fs ≡ false → every (λ (g : Fields). leb g.key k) (take i fs) ≡ true
-over_false k zero fs l r h = unfold every in refl
-over_false k (suc i) fs l r h =
-    let g : Fields = get_or fs i nothing in
-    let m = ltb-false k g.key h in
-    let e : take (suc i) fs ≡ take i fs ++ g ∷ [] = take-suc fs i nothing (omega arith) in
-    rw e (every_append (λ (a : Fields). leb a.key k) (take i fs) (g ∷ []) (every_map (λ (a : Fields). ltb a.key g.key) (λ (a : Fields). leb a.key k) (λ a t. let z = ltb-true a.key g.key t in le-leb a.key k (omega arith)) (take i fs) (last_old (take i fs) g (rw e at r))) (every_one (λ (a : Fields). leb a.key k) g (le-leb g.key k m)))
-
 -- ---- a put of f, the last edit that is left
 
 module _ (whole : List Fields) (left : List Edit) (f : Fields) (before : List ℕ) (olds : List Fields) (i skip : ℕ) (list : List ℕ) (e : length (puts_in left) ≡ skip) (p : Filling whole (left ++ put f ∷ []) before olds i list) where
@@ -165,13 +140,9 @@ module _ (whole : List Fields) (left : List Edit) (f : Fields) (before : List �
   same_now : (g : Fields) (list' : List ℕ) → IsPut w g list list' → Same 70 before list'
   same_now g list' x = same-put 70 (omega arith) before list list' (encode g) w p.same (length-encode g) (omega (arith, inside, long)) x.bytes
 
-  rises-in : pairs rises (take i xs) ≡ true
-  rises-in = rw p.front (pairs_parts rises (take i olds) (drop i olds) (rw (take-append-drop i olds) p.rise)).0
-
   -- it comes behind all records in front
-  pub slide_put : false ≡ last_over f.key i xs → (list' : List ℕ) → IsPut w f list list' → Filling whole left before olds i list'
-  slide_put q list' x =
-      let h : every (λ (g : Fields). leb g.key f.key) (take i olds) ≡ true = rw p.front at (over_false f.key i xs (omega (arith, inside)) rises-in (sym q)) in
+  pub slide_put : every (λ (g : Fields). leb g.key f.key) (take i olds) ≡ true → (list' : List ℕ) → IsPut w f list list' → Filling whole left before olds i list'
+  slide_put h list' x =
       record {
         rise = p.rise;
         news = (pairs_parts edits_rise left (put f ∷ []) p.news).0;
@@ -187,8 +158,13 @@ module _ (whole : List Fields) (left : List Edit) (f : Fields) (before : List �
             ∙ p.behind;
       }
 
-  -- or the last of them comes behind it
-  module _ (q : true ≡ last_over f.key i xs) (o : Item) (y : o ≡ item_of (drop ((i - 1) * 70) list)) where
+  -- there are none
+  pub none_past : i ≤ 0 → every (λ (g : Fields). leb g.key f.key) (take i olds) ≡ true
+  unfolding every
+  none_past h = let z : i ≡ 0 = omega arith in rw z refl
+
+  -- the last of them
+  module _ (some : 0 < i) (o : Item) (y : o ≡ item_of (drop ((i - 1) * 70) list)) where
     abbrev m : ℕ
     m = i - 1
 
@@ -198,48 +174,50 @@ module _ (whole : List Fields) (left : List Edit) (f : Fields) (before : List �
     abbrev es : List Edit
     es = left ++ put f ∷ []
 
-    over : (0 < i) × (f.key < (get_or xs m nothing).key)
-    over = over-true f.key i xs (sym q)
-
-    g_at : (d : Fields) → get_or xs m d ≡ g
-    g_at d = items_at list m d (omega (arith, over, inside, items-length list)) ∙ sym (item-decode o _ y)
-
-    g_past : f.key < g.key
-    g_past = rw (g_at nothing) at over.1
+    g_at : get_or xs m g ≡ g
+    g_at = items_at list m g (omega (arith, some, inside, items-length list)) ∙ sym (item-decode o _ y)
 
     g_old : g ≡ get_or olds m g
-    g_old = sym (g_at g) ∙ sym (get_or-take i xs m g (omega (arith, over))) ∙ ap (λ (l : List Fields). get_or l m g) p.front ∙ get_or-take i olds m g (omega (arith, over))
+    g_old = sym g_at ∙ sym (get_or-take i xs m g (omega (arith, some))) ∙ ap (λ (l : List Fields). get_or l m g) p.front ∙ get_or-take i olds m g (omega (arith, some))
 
     olds_snoc : take i olds ≡ take m olds ++ g ∷ []
     olds_snoc =
-        let n : i ≡ suc m = omega (arith, over) in
-        ap (λ (i : ℕ). take i olds) n ∙ take-suc olds m g (omega (arith, p.most, over)) ∙ ap (λ (h : Fields). take m olds ++ h ∷ []) (sym g_old)
+        let n : i ≡ suc m = omega (arith, some) in
+        ap (λ (i : ℕ). take i olds) n ∙ take-suc olds m g (omega (arith, p.most, some)) ∙ ap (λ (h : Fields). take m olds ++ h ∷ []) (sym g_old)
 
-    below : every (λ (x : Fields). ltb x.key g.key) (puts_in es) ≡ true
-    below = puts-below g.key es (every_append (λ (e : Edit). ltb (key_of e) g.key) left (put f ∷ []) (every_map (λ (a : Edit). ltb (key_of a) f.key) (λ (a : Edit). ltb (key_of a) g.key) (λ a h. let z = ltb-true (key_of a) f.key h in lt-ltb (key_of a) g.key (omega (arith, g_past))) left (last_edit left (put f) p.news)) (every_one (λ (e : Edit). ltb (key_of e) g.key) (put f) (lt-ltb f.key g.key g_past)))
+    -- does not come behind it: so none does
+    pub last_before : g.key ≤ f.key → every (λ (a : Fields). leb a.key f.key) (take i olds) ≡ true
+    last_before h =
+        let r : pairs rises (take m olds ++ g ∷ []) ≡ true = rw olds_snoc at (pairs_parts rises (take i olds) (drop i olds) (rw (take-append-drop i olds) p.rise)).0 in
+        rw olds_snoc (every_append (λ (a : Fields). leb a.key f.key) (take m olds) (g ∷ []) (every_map (λ (a : Fields). ltb a.key g.key) (λ (a : Fields). leb a.key f.key) (λ a t. let z = ltb-true a.key g.key t in le-leb a.key f.key (omega arith)) (take m olds) (last_old (take m olds) g r)) (every_one (λ (a : Fields). leb a.key f.key) g (le-leb g.key f.key h)))
 
-    pub slide_old : (list' : List ℕ) → IsPut w g list list' → Filling whole es before olds m list'
-    slide_old list' x =
-        let last : m + length (puts_in es) ≡ w = omega (arith, more, over) in
-        record {
-          rise = p.rise;
-          news = p.news;
-          room = omega (arith, p.room);
-          most = omega (arith, p.most);
-          same = same_now g list' x;
-          front =
-              ap (take m) x.those
-              ∙ take-set-le m xs w g (omega arith)
-              ∙ sym (take-take m i xs (omega arith))
-              ∙ ap (take m) p.front
-              ∙ take-take m i olds (omega arith);
-          behind =
-              ap (λ (n : ℕ). merged (take m olds) es ++ drop n (items list')) last
-              ∙ ap (λ (l : List Fields). merged (take m olds) es ++ l) (ap (drop w) x.those ∙ back_one g)
-              ∙ sym (append_assoc (merged (take m olds) es) (g ∷ []) (drop end xs))
-              ∙ ap (λ (l : List Fields). l ++ drop end xs) (sym (ap (λ (l : List Fields). merged l es) olds_snoc ∙ merged-old (take m olds) g es below))
-              ∙ p.behind;
-        }
+    -- does
+    module _ (past : f.key < g.key) where
+      below : every (λ (x : Fields). ltb x.key g.key) (puts_in es) ≡ true
+      below = puts-below g.key es (every_append (λ (e : Edit). ltb (key_of e) g.key) left (put f ∷ []) (every_map (λ (a : Edit). ltb (key_of a) f.key) (λ (a : Edit). ltb (key_of a) g.key) (λ a h. let z = ltb-true (key_of a) f.key h in lt-ltb (key_of a) g.key (omega arith)) left (last_edit left (put f) p.news)) (every_one (λ (e : Edit). ltb (key_of e) g.key) (put f) (lt-ltb f.key g.key past)))
+
+      pub slide_old : (list' : List ℕ) → IsPut w g list list' → Filling whole es before olds m list'
+      slide_old list' x =
+          let last : m + length (puts_in es) ≡ w = omega (arith, more, some) in
+          record {
+            rise = p.rise;
+            news = p.news;
+            room = omega (arith, p.room);
+            most = omega (arith, p.most);
+            same = same_now g list' x;
+            front =
+                ap (take m) x.those
+                ∙ take-set-le m xs w g (omega arith)
+                ∙ sym (take-take m i xs (omega arith))
+                ∙ ap (take m) p.front
+                ∙ take-take m i olds (omega arith);
+            behind =
+                ap (λ (n : ℕ). merged (take m olds) es ++ drop n (items list')) last
+                ∙ ap (λ (l : List Fields). merged (take m olds) es ++ l) (ap (drop w) x.those ∙ back_one g)
+                ∙ sym (append_assoc (merged (take m olds) es) (g ∷ []) (drop end xs))
+                ∙ ap (λ (l : List Fields). l ++ drop end xs) (sym (ap (λ (l : List Fields). merged l es) olds_snoc ∙ merged-old (take m olds) g es below))
+                ∙ p.behind;
+          }
 
 -- ---- the last of the lines that are left
 

@@ -1,6 +1,6 @@
 -- For the code only: the list changed in place, in two passes: front to back, records that no edit names move down; back to front, they and
 -- what is put move to their places. So no byte past the result is written.
-use Rattle.std.specs.Prelude.{Bool, true, false, not, ◌≡◌, ℕ, zero, suc, ◌+◌, ◌*◌, ◌/◌, ◌≤◌, ltb, length, get_or, take, drop, set}
+use Rattle.std.specs.Prelude.{true, not, ◌≡◌, ℕ, ◌+◌, ◌*◌, ◌/◌, ◌≤◌, length, take, drop, set}
 use mathlib.Core.List.{List, [], ◌∷◌, ◌++◌, map, flat_map}
 use Rattle.endian.specs.Le.{put as over}
 use Rattle.records.specs.Select.{keep}
@@ -9,7 +9,6 @@ use Rattle.item.specs.Items.{Fields, items, encode}
 use Rattle.lists.specs.Lists.{rises}
 use Rattle.cut_def.specs.Pieces.{kept, items_of, insert_all}
 use Rattle.cut_def.specs.Edits.{Edit, put, put_of, edited}
-use Rattle.cut_segment.specs.Segments.{nothing}
 use Rattle.apply_def.specs.Apply.{edits_rise}
 use Rattle.plan_def.specs.ReadBack.{edit_in}
 use Rattle.apply_def.specs.Buffers.{Same}
@@ -55,11 +54,6 @@ pub record Packed (es : List Edit) (before : List ℕ) (n m : ℕ) (list : List 
   pub behind : drop m (items list) ≡ drop m (items before)
 
 -- ---- back to front
-
--- the last of the first i records has a key past k
-abbrev pub last_over : ℕ → ℕ → List Fields → Bool
-last_over k zero fs = false
-last_over k (suc i) fs = ltb k (get_or fs i nothing).key
 
 -- of the records in front i are left, and these edits; behind the places of both the whole result stands
 pub record Filling (whole : List Fields) (left : List Edit) (before : List ℕ) (olds : List Fields) (i : ℕ) (list : List ℕ) : Type 0 where

@@ -12,7 +12,7 @@ ghost use Rattle.plan_def.specs.Outputs.{laid};
 ghost use Rattle.apply_def.specs.Buffers.{Same};
 ghost use Rattle.apply_walk.specs.Merge.{Rising};
 ghost use Rattle.apply_walk.specs.Checks.{items_now};
-ghost use Rattle.apply_items.specs.Passes.{IsPut, edits_of, puts_in, merged, Packed, last_over, Slid};
+ghost use Rattle.apply_items.specs.Passes.{IsPut, edits_of, puts_in, merged, Packed, Slid};
 
 use edits::Edits;
 use item::Item;
@@ -27,7 +27,7 @@ fn put_record(list: &mut [u8], k: usize, item: Item)
 
 // ---- front to back
 
-// The records of n that no edit names, moved to the front; how many they are. By number: a record is read and another written.
+// The records of n that no edit names, moved to the front; how many they are. By number: the list is changed as it is read.
 fn pack(list: &mut [u8], n: usize, edits: Edits) -> usize
     requires { (n ≤ length list.old / 70) × (pairs rises (take n (items list.old)) ≡ true) }
     ensures { Packed (edits_of edits.entry) list.old n result list.new }
@@ -46,22 +46,14 @@ fn pack(list: &mut [u8], n: usize, edits: Edits) -> usize
 
 // ---- back to front
 
-// Whether the last of the first i records has a key past this one.
-fn is_over(list: &[u8], i: usize, key: u64) -> bool
-    requires { i ≤ length list.now / 70 }
-    ensures { result ≡ last_over key i (items list.now) }
-{
-    i > 0 && item::item_at(list, i - 1).key > key
-}
-
 // An item among the first n records, at its key: those past it move up by skip + 1, and it takes the last of the places that they
-// leave. How many records are before it.
+// leave. How many records are before it. By number: the list is changed as it is read.
 fn slide_record(list: &mut [u8], n: usize, skip: usize, item: Item) -> usize
     requires { n + skip < length list.old / 70 }
     ensures { (result ≤ n) × Slid n skip (fields item) result list.old list.new }
 {
     let mut i = n;
-    while is_over(list, i, item.key) {
+    while i > 0 && item::item_at(list, i - 1).key > item.key {
         let moved = item::item_at(list, i - 1);
         put_record(list, i + skip, moved);
         i -= 1;

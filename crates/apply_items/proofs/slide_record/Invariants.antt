@@ -4,11 +4,11 @@ use Rattle.cut_def.specs.Edits.{Edit, put}
 use Rattle.apply_items.specs.Passes.{puts_in, Filling}
 use Rattle.apply_items.proofs.slide_record.Given as goal
 
-abbrev pub invariant-loop-list : goal.invariant-loop-list
-invariant-loop-list l =
+abbrev pub invariant-loop-i : goal.invariant-loop-i
+invariant-loop-i l =
     (l.i ≤ l.n)
     × ((whole : List Fields) (left : List Edit) (before : List ℕ) (olds : List Fields) → length (puts_in left) ≡ l.skip
     → Filling whole (left ++ put (fields l.item) ∷ []) before olds l.n l.initial.list → Filling whole (left ++ put (fields l.item) ∷ []) before olds l.i l.list)
 
-abbrev pub decreases-loop-list : goal.decreases-loop-list
-decreases-loop-list l = l.i
+abbrev pub decreases-loop-i : goal.decreases-loop-i
+decreases-loop-i l = l.i
