@@ -1,19 +1,27 @@
 -- The shares of a cut's splits, but for those of extents that are written in place. Assumes nothing.
-use mathlib.Core.Path.{◌≡◌, ap}
+use mathlib.Core.Path.{◌≡◌, ap, ◌∙◌}
 use mathlib.Core.Bool.{Bool, true, not, ◌&&◌}
 use mathlib.Core.List.{List, [], ◌∷◌, map}
 use Prim.Native.Nat.{ℕ}
 use lib.Dec.{eqb, ltb}
 use borrow.Author.Tests.{not-true}
+use Rattle.std.specs.List.{filter}
 use Rattle.records.specs.Select.{keep}
 use Rattle.records.proofs.Tests.{both_right, every_map}
 use Rattle.records.proofs.Lists.{every-mapped}
-use Rattle.records.proofs.Picks.{keep_where, every-kept}
+use Rattle.records.proofs.Picks.{keep_where, keep-mapped, keep-keep, every-kept}
 use Rattle.item.specs.Items.{Fields, hole, end}
 use Rattle.cut_def.specs.Cuts.{split}
 use Rattle.cut_def.specs.Refs.{Ref, ref_of}
 use Rattle.ref_def.proofs.Among.{nonzero, any_nonzero}
-use Rattle.cut_splits.specs.Splits.{elsewhere}
+use Rattle.plan_lines.proofs.Filtered.{keep_filter}
+use Rattle.cut_splits.specs.Splits.{elsewhere, shared}
+
+-- they are the references of the items that are shared
+pub split_refs : (lo hi one two : ℕ) (fs : List Fields) → keep (elsewhere (one ∷ two ∷ [])) (map ref_of (keep (split lo hi) fs)) ≡ map ref_of (filter (shared lo hi one two) fs)
+split_refs lo hi one two fs =
+    keep-mapped (elsewhere (one ∷ two ∷ [])) ref_of (keep (split lo hi) fs)
+    ∙ ap (map ref_of) (keep-keep (λ (f : Fields). elsewhere (one ∷ two ∷ []) (ref_of f)) (split lo hi) fs ∙ keep_filter (shared lo hi one two) fs)
 
 -- an item that is split names an extent
 split-named : (lo hi : ℕ) (f : Fields) → split lo hi f ≡ true → not (eqb f.extent_start 0) ≡ true

@@ -1,6 +1,6 @@
--- For the code only: what one record adds: to the refusals of a cut's splits, and to their shares.
+-- For the code only: a split's refusal, and which splits are shared.
 use Rattle.std.specs.Prelude.{Bool, cond, ◌&&◌, not, List, [], ◌∷◌, ℕ, eqb}
-use Rattle.records.specs.Select.{only, any}
+use Rattle.records.specs.Select.{any}
 use Rattle.item.specs.Items.{Fields}
 use Rattle.cut_def.specs.Cuts.{split}
 use Rattle.cut_def.specs.Refs.{Ref, ref_of}
@@ -18,7 +18,3 @@ elsewhere extents q = not (any (eqb q.start) extents)
 -- an item that is split, and whose extent is none of two
 abbrev pub shared : (lo hi one two : ℕ) → Fields → Bool
 shared lo hi one two f = split lo hi f && elsewhere (one ∷ two ∷ []) (ref_of f)
-
--- its share
-abbrev pub split_share : (lo hi one two : ℕ) → Fields → List Ref
-split_share lo hi one two f = only (shared lo hi one two f) (ref_of f)

@@ -13,7 +13,7 @@ ghost use Rattle.cut_def.specs.Pieces.{counted_bytes};
 ghost use Rattle.cut_def.specs.Refs.{Ref, ref_of};
 ghost use Rattle.plan_def.specs.Outputs.{ref_numbers};
 ghost use Rattle.plan_lines.specs.Lines.{Laid};
-ghost use Rattle.cut_splits.specs.Splits.{split_refusal, elsewhere, shared, split_share};
+ghost use Rattle.cut_splits.specs.Splits.{split_refusal, elsewhere, shared};
 
 use drop_lines::Cut;
 use item::Item;
@@ -50,27 +50,12 @@ fn is_shared(k: Cut, item: Item) -> bool
     cut_def::is_split(k.lo, k.hi, item) && !(start == k.one || start == k.two)
 }
 
-fn put_split(k: Cut, item: Item, out: &mut [u64], n: usize) -> usize
-    requires { n + 1 < 2 ^ 64 }
-    ensures { Laid ref_numbers 2 n (split_share k.lo k.hi k.one k.two (fields item)) out.old result out.new }
-{
-    if is_shared(k, item) {
-        plan_lines::put_ref(out, n, item.extent_start(), item.reference())
-    } else {
-        n
-    }
-}
-
 // The splits' shares, but for those of two extents, whose references are compared; 0 is no extent.
 pub fn put_splits(k: Cut, list: &[u8], out: &mut [u64], n: usize) -> usize
     requires { n + length (items list.now) < 2 ^ 64 }
     ensures { Laid ref_numbers 2 n (keep (elsewhere (k.one ∷ k.two ∷ [])) (map ref_of (keep (split k.lo k.hi) (items list.now)))) out.old result out.new }
 {
-    let mut m = n;
-    for item in item::items(list) {
-        m = put_split(k, item, out, m);
-    }
-    m
+    plan_lines::put_refs(item::items(list).filter(|item| is_shared(k, *item)), out, n)
 }
 
 // ---- the byte count

@@ -1,19 +1,16 @@
 -- Laws of chains: what a walk along one takes, counts and lays. Assumes nothing.
 use mathlib.Core.Path.{◌≡◌, refl, ap, ap₂, ◌∙◌, sym}
 use mathlib.Core.Bool.{Bool, true, false, cond, ◌&&◌, and-true, and_assoc}
-use mathlib.Core.List.{List, [], ◌∷◌, map}
+use mathlib.Core.List.{List, [], ◌∷◌}
 use Prim.Native.Nat.{ℕ, zero, suc, ◌+◌, ◌<◌, ◌≤◌}
 use native.Mathlib.Omega.{arith}
 use lib.Dec.{eqb}
-use lib.ListN.{length, get_or, set, drop, length-map}
+use lib.ListN.{length, get_or, set, drop}
 use lib.Seq.{drop-cons, get_or-set_other}
 use borrow.Author.Tests.{eq-eqb, ne_eqb}
 use Rattle.records.specs.Stages.{every}
-use Rattle.cut_def.specs.Refs.{Ref}
 use Rattle.ref_def.specs.Drops.{InLeaf}
-use Rattle.plan_lines.specs.Lines.{Laid}
-use Rattle.plan_lines.proofs.Laws.{Going, going-turn, going_done}
-use Rattle.drop_chains.specs.Chains.{along, From, unshared, freed, line_in, unref_lines, release_lines}
+use Rattle.drop_chains.specs.Chains.{along, From, unshared, freed, unref_lines, release_lines}
 
 module _ {A : Type 0} where
   along_yes : (nexts : List ℕ) (i h : ℕ) (x : A) (l : List A) → h ≡ i + 1 → along nexts i h (x ∷ l) ≡ x ∷ along nexts (i + 1) (get_or nexts i 0) l
@@ -98,19 +95,6 @@ module _ (all left : List InLeaf) (n : ℕ) (b : Bool) (t : Tally all left n b) 
   -- the answer, from what was counted and tested
   pub tally_freed : left ≡ [] → (references : ℕ) → (eqb references n && b) ≡ freed references all
   tally_freed e references = let z = tally_end e in rw (← z.0, ← z.1) refl
-
--- ---- a loop that puts the lines of a chain: its end, and its turn
-
-pub chain_done : (f : Ref → List ℕ) (n₀ : ℕ) (all : List Ref) (out₀ : List ℕ) (n : ℕ) (out : List ℕ) (left : List InLeaf) → left ≡ [] → Going f 2 n₀ all out₀ n (map line_in left) out → Laid f 2 n₀ all out₀ n out
-chain_done f n₀ all out₀ n out left e going = going_done f 2 n₀ all out₀ n out (rw e at going)
-
--- d is the next of the chain, and the lines before it are laid
-module _ (f : Ref → List ℕ) (n₀ : ℕ) (all : List Ref) (out₀ : List ℕ) (n : ℕ) (out : List ℕ) (left rest : List InLeaf) (d : InLeaf) (e : left ≡ d ∷ rest) (going : Going f 2 n₀ all out₀ n (map line_in left) out) where
-  pub chain_room : n + 1 ≤ n₀ + length all
-  chain_room = omega (arith, going.lines, length-map left line_in, ap length e)
-
-  pub chain_turn : (m : ℕ) (out' : List ℕ) → Laid f 2 n (line_in d ∷ []) out m out' → Going f 2 n₀ all out₀ m (map line_in rest) out'
-  chain_turn m out' l = going-turn f 2 n₀ all out₀ n (line_in d ∷ []) (map line_in rest) out m out' (rw e at going) l
 
 -- ---- lines of one kind that there are none of
 

@@ -44,26 +44,12 @@ fn is_freed(references: u64, chain: Chain) -> bool
     references == drops && free
 }
 
-// The line of a drop.
-fn put_drop(item: Item, out: &mut [u64], n: usize) -> usize
-    requires { n + 1 < 2 ^ 64 }
-    ensures { Laid ref_numbers 2 n (ref_of (fields item) ∷ []) out.old result out.new }
-{
-    let start = item.extent_start();
-    let offset = item.reference();
-    plan_lines::put_ref(out, n, start, offset)
-}
-
 // A line for each drop of a chain.
 fn put_all(chain: Chain, out: &mut [u64], n: usize) -> usize
     requires { n + length (left chain) < 2 ^ 64 }
     ensures { Laid ref_numbers 2 n (map line_in (left chain.entry)) out.old result out.new }
 {
-    let mut m = n;
-    for (item, _) in chain {
-        m = put_drop(item, out, m);
-    }
-    m
+    plan_lines::put_refs(chain.map(|(item, _)| item), out, n)
 }
 
 // The lines of a chain: releases if its drops free their extent, else unrefs.

@@ -1,18 +1,19 @@
 -- The lines of drops, row by row and item by item, and how many there are. Assumes nothing.
 use mathlib.Core.Path.{◌≡◌, refl, ap, ◌∙◌, sym}
 use mathlib.Core.Bool.{Bool, true, false, cond}
-use mathlib.Core.List.{List, [], ◌∷◌, ◌++◌, map, flat_map}
+use mathlib.Core.List.{List, [], ◌∷◌, map, flat_map}
 use Prim.Native.Nat.{ℕ, ◌+◌, ◌≤◌}
 use native.Mathlib.Omega.{arith}
 use lib.Dec.{eqb, leb}
 use lib.ListN.{length, length-append, length-map}
 use borrow.Author.Tests.{eqb-true, le-leb, leb-true, leb-false}
-use Rattle.records.specs.Select.{keep, count, only}
+use Rattle.std.specs.List.{filter}
+use Rattle.records.specs.Select.{keep, count}
 use Rattle.records.specs.Stages.{every, pairs}
-use Rattle.records.proofs.Tests.{both_left, both_right, every_map}
+use Rattle.records.proofs.Tests.{both_left, every_map}
 use Rattle.records.proofs.Lists.{every_true}
 use Rattle.records.proofs.Counts.{count-length, count-apart, keep-length}
-use Rattle.item.specs.Items.{Fields, reference}
+use Rattle.item.specs.Items.{Fields}
 use Rattle.table.specs.declared.Row.{Row}
 use Rattle.table.specs.Rows.{row_sound, row_before, table_kept}
 use Rattle.table.proofs.Laws.{kept-tail, kept-length, kept-pairs}
@@ -20,48 +21,38 @@ use Rattle.cut_def.specs.Refs.{Ref, ref_of}
 use Rattle.ref_def.specs.Drops.{InLeaf, in_leaves, drops_of, lines, released, releases, unrefs}
 use Rattle.ref_def.proofs.Drops.{drops-number, leaves-length}
 use Rattle.drop_lines.specs.declared.Cut.{Cut}
-use Rattle.drop_lines.specs.Dropped.{taken, dropped, drops_in}
-use Rattle.drop_lines.specs.Raw.{drop_of, line_of, row_releases, row_unrefs}
+use Rattle.drop_lines.specs.Dropped.{dropped, drops_in}
+use Rattle.drop_lines.specs.Raw.{drop_of, line_of, lines_at, row_releases, row_unrefs}
 use Rattle.drop_lines.proofs.Tallies.{of_extent, drops_of_lem}
 
 -- ---- the lines of one extent: the shared bytes do not count
 
 module _ (c : Cut) (start : ℕ) where
-  lines-held : (fs : List Fields) (bs : List ℕ) → length bs ≡ length fs → map (λ (d : InLeaf). ref_of d.item) (keep (of_extent c start) (in_leaves fs bs)) ≡ flat_map (line_of c start) fs
-  unfolding in_leaves keep flat_map
+  lines-held : (fs : List Fields) (bs : List ℕ) → length bs ≡ length fs → map (λ (d : InLeaf). ref_of d.item) (keep (of_extent c start) (in_leaves fs bs)) ≡ lines_at c start fs
+  unfolding in_leaves keep
   lines-held [] bs h = refl
   lines-held (f ∷ fs) [] h = absurd (omega arith)
   lines-held (f ∷ fs) (b ∷ bs) h = go (drop_of c start f) (lines-held fs bs (omega arith))
     where
-      go : (t : Bool) → map (λ (d : InLeaf). ref_of d.item) (keep (of_extent c start) (in_leaves fs bs)) ≡ flat_map (line_of c start) fs
-          → map (λ (d : InLeaf). ref_of d.item) (cond t (record { item = f; shared = b } ∷ keep (of_extent c start) (in_leaves fs bs)) (keep (of_extent c start) (in_leaves fs bs))) ≡ only t (ref_of f) ++ flat_map (line_of c start) fs
+      go : (t : Bool) → map (λ (d : InLeaf). ref_of d.item) (keep (of_extent c start) (in_leaves fs bs)) ≡ lines_at c start fs
+          → map (λ (d : InLeaf). ref_of d.item) (cond t (record { item = f; shared = b } ∷ keep (of_extent c start) (in_leaves fs bs)) (keep (of_extent c start) (in_leaves fs bs)))
+          ≡ map line_of (cond t (f ∷ filter (drop_of c start) fs) (filter (drop_of c start) fs))
       go true e = ap (λ (l : List Ref). ref_of f ∷ l) e
       go false e = e
 
-  pub lines-items : (fs : List Fields) (bs : List ℕ) → length bs ≡ length fs → lines start (drops_in c fs bs) ≡ flat_map (line_of c start) fs
+  pub lines-items : (fs : List Fields) (bs : List ℕ) → length bs ≡ length fs → lines start (drops_in c fs bs) ≡ lines_at c start fs
   lines-items fs bs h = ap (map (λ (d : InLeaf). ref_of d.item)) (drops_of_lem c start fs bs) ∙ lines-held fs bs h
-
-  -- the line of one item, from whether it is a drop
-  module _ (f : Fields) (t : Bool) (e : t ≡ drop_of c start f) where
-    pub line-some : (o : ℕ) → t ≡ true → o ≡ reference f → line_of c start f ≡ record { start = start; offset = o } ∷ []
-    line-some o h q =
-        let d : drop_of c start f ≡ true = sym e ∙ h in
-        let p : f.extent_start ≡ start = eqb-true f.extent_start start (both_right (taken c f) (eqb f.extent_start start) d) in
-        rw (d, q, p) refl
-
-    pub line-none : t ≡ false → line_of c start f ≡ []
-    line-none h = rw (sym e ∙ h) refl
 
 -- ---- the lines of one row, and of all
 
 module _ (c : Cut) (fs : List Fields) (bs : List ℕ) (row : Row) (t : Bool) (e : t ≡ released (drops_in c fs bs) row) where
-  pub released_lines : length bs ≡ length fs → t ≡ true → row_releases (drops_in c fs bs) row ≡ flat_map (line_of c row.start) fs
+  pub released_lines : length bs ≡ length fs → t ≡ true → row_releases (drops_in c fs bs) row ≡ lines_at c row.start fs
   released_lines l z = rw (sym e ∙ z) (lines-items c row.start fs bs l)
 
   pub released_none : t ≡ true → row_unrefs (drops_in c fs bs) row ≡ []
   released_none z = rw (sym e ∙ z) refl
 
-  pub held_lines : length bs ≡ length fs → t ≡ false → row_unrefs (drops_in c fs bs) row ≡ flat_map (line_of c row.start) fs
+  pub held_lines : length bs ≡ length fs → t ≡ false → row_unrefs (drops_in c fs bs) row ≡ lines_at c row.start fs
   held_lines l z = rw (sym e ∙ z) (lines-items c row.start fs bs l)
 
   pub held_none : t ≡ false → row_releases (drops_in c fs bs) row ≡ []

@@ -1,7 +1,7 @@
 -- For the code only: what private functions compute, item by item and row by row.
-use Rattle.std.specs.Prelude.{Bool, cond, ◌&&◌, List, [], ◌∷◌, ℕ, eqb, Option, Some, None}
+use Rattle.std.specs.Prelude.{Bool, cond, ◌&&◌, List, [], ◌∷◌, map, ℕ, eqb, Option, Some, None}
 use Rattle.records.specs.Refusals.{number}
-use Rattle.records.specs.Select.{only}
+use Rattle.std.specs.List.{filter}
 use Rattle.item.specs.Items.{Fields}
 use Rattle.table.specs.declared.Row.{Row}
 use Rattle.cut_def.specs.Refs.{Ref, ref_of}
@@ -31,12 +31,15 @@ unfoldable pub items_due : Cut → List Row → List Fields → Due
 items_due c rows [] = none_due
 items_due c rows (f ∷ fs) = earlier (item_due c rows f) (items_due c rows fs)
 
--- an item is a drop of the extent at `start`, and its line if it is
+-- an item is a drop of the extent at `start`; a drop's line, and those of all
 abbrev pub drop_of : Cut → ℕ → Fields → Bool
 drop_of c start f = taken c f && eqb f.extent_start start
 
-abbrev pub line_of : Cut → ℕ → Fields → List Ref
-line_of c start f = only (drop_of c start f) (ref_of f)
+abbrev pub line_of : Fields → Ref
+line_of f = ref_of f
+
+abbrev pub lines_at : Cut → ℕ → List Fields → List Ref
+lines_at c start fs = map line_of (filter (drop_of c start) fs)
 
 -- the lines of one row's drops: releases if its extent is released, else unrefs
 abbrev pub row_releases : List InLeaf → Row → List Ref

@@ -3,7 +3,7 @@
 #![tactic(auto)]
 
 ghost use Rattle.std.specs.Prelude.{◌≡◌, ℕ, ◌+◌, ◌/◌, ◌≤◌, ◌<◌, ◌^◌, length};
-ghost use mathlib.Core.List.{List, flat_map};
+ghost use mathlib.Core.List.{List};
 ghost use Rattle.records.specs.Lent.{old, new};
 ghost use Rattle.records.specs.Refusals.{why};
 ghost use Rattle.item.specs.Items.{fields, items};
@@ -14,7 +14,7 @@ ghost use Rattle.ref_def.specs.Drops.{drop_refusal, earlier, drops_refusal, rele
 ghost use Rattle.ref_def.specs.Lent.{leaves_of};
 ghost use Rattle.drop_lines.specs.Dropped.{taken, drops_in};
 ghost use Rattle.drop_lines.specs.Lent.{cut_drops};
-ghost use Rattle.drop_lines.specs.Raw.{due, item_due, drop_of, line_of, row_unrefs, row_releases};
+ghost use Rattle.drop_lines.specs.Raw.{due, item_due, drop_of, lines_at, row_unrefs, row_releases};
 ghost use Rattle.drop_chains.specs.Counts.{Countable};
 ghost use Rattle.drop_chains.specs.Links.{links, Blank, Linked};
 
@@ -122,27 +122,13 @@ pub fn is_released(c: Cut, leaves: Leaves, row: Row) -> bool
     row.references == drops
 }
 
-// The line of one item, if it is a drop of the extent at `start`.
-fn put_line(c: Cut, start: u64, item: Item, out: &mut [u64], n: usize) -> usize
-    requires { n + length (line_of c start (fields item)) < 2 ^ 64 }
-    ensures { Laid ref_numbers 2 n (line_of c start (fields item)) out.old result out.new }
-{
-    if is_drop_of(c, start, item) {
-        return plan_lines::put_ref(out, n, start, item.reference());
-    }
-    n
-}
-
 // A line for each drop of the extent at `start`, in list order.
 fn put_lines(c: Cut, start: u64, list: &[u8], out: &mut [u64], n: usize) -> usize
-    requires { n + length (flat_map (line_of c start) (items list.now)) < 2 ^ 64 }
-    ensures { Laid ref_numbers 2 n (flat_map (line_of c start) (items list.now)) out.old result out.new }
+    requires { n + length (lines_at c start (items list.now)) < 2 ^ 64 }
+    ensures { Laid ref_numbers 2 n (lines_at c start (items list.now)) out.old result out.new }
 {
-    let mut at = n;
-    for item in item::items(list) {
-        at = put_line(c, start, item, out, at);
-    }
-    at
+    let drops = item::items(list).filter(|item| is_drop_of(c, start, *item));
+    plan_lines::put_refs(drops, out, n)
 }
 
 // The lines of one row's drops: releases if its extent is released, else unrefs.

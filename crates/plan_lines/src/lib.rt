@@ -2,12 +2,15 @@
 // function counts a plan's lines and writes them. And edits read again.
 #![tactic(auto)]
 
-ghost use Rattle.std.specs.Prelude.{◌≡◌, List, ℕ, [], ◌∷◌, ◌+◌, ◌*◌, ◌/◌, ◌≤◌, ◌<◌, ◌^◌, eqb, length, get_or, drop};
+ghost use Rattle.std.specs.Prelude.{◌≡◌, List, ℕ, [], ◌∷◌, map, ◌+◌, ◌*◌, ◌/◌, ◌≤◌, ◌<◌, ◌^◌, eqb, length, get_or, drop};
 ghost use Rattle.records.specs.Lent.{old, new};
 ghost use Rattle.endian.specs.Le.{put};
-ghost use Rattle.item.specs.Items.{fields, decode};
+ghost use Rattle.item.specs.Items.{Fields, fields, decode};
 ghost use Rattle.plan_def.specs.Outputs.{ref_numbers, add_numbers, write_numbers};
 ghost use Rattle.plan_lines.specs.Lines.{Laid};
+ghost use Rattle.std.specs.Iterator.{IsFinite};
+ghost use Rattle.std.proofs.lemmas.Iterator.{YieldsList};
+ghost use Rattle.cut_def.specs.Refs.{ref_of};
 
 use item::Item;
 
@@ -38,6 +41,20 @@ pub fn put_ref(out: &mut [u64], n: usize, start: u64, offset: u64) -> usize
     ensures { Laid ref_numbers 2 n (record { start = start; offset = offset } ∷ []) out.old result out.new }
 {
     put_line(out, n, [start, offset])
+}
+
+// The references of the items that an iterator gives, as lines from number n on.
+pub fn put_refs<I: Iterator<Item = Item> + Drop>(items: I, out: &mut [u64], n: usize) -> usize
+    requires can { I.can_next items }
+    requires ends { IsFinite (I.remaining items) }
+    requires room { (fs : List Fields) × YieldsList I.next_gives fields items fs × (n + length fs < 2 ^ 64) }
+    ensures { (fs : List Fields) → YieldsList I.next_gives fields items fs → Laid ref_numbers 2 n (map ref_of fs) out.old result out.new }
+{
+    let mut m = n;
+    for item in items {
+        m = put_ref(out, m, item.extent_start(), item.reference());
+    }
+    m
 }
 
 // A new extent as line n: its start, its length, and the key of its item.

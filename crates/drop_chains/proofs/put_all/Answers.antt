@@ -1,9 +1,25 @@
+use Rattle.std.proofs.Common.{rules, tests}
+use Rattle.std.proofs.lemmas.Iterator.{YieldsList-from_map_by}
+use Rattle.std.proofs.lemmas.Iterator.Consumers.{YieldsList-at, YieldsList-from_first}
+use native.Mathlib.Omega.{arith}
+use mathlib.Core.List.{map, map-map}
+use mathlib.Core.Path.{refl, sym}
+use lib.ListN.{length-map}
+use Rattle.item.specs.Items.{Fields, fields}
+use Rattle.ref_def.specs.Drops.{InLeaf}
 use Rattle.plan_def.specs.Outputs.{ref_numbers}
-use Rattle.drop_chains.proofs.Walks.{chain_done, chain_turn}
+use Rattle.plan_lines.proofs.Loops.{laid_same}
+use Rattle.drop_chains.specs.Reading.{leaf, left}
 use Rattle.drop_chains.proofs.put_all.Goals as goal
 
-pub loop-item-preserved : goal.loop-item-preserved
-loop-item-preserved c = chain_turn ref_numbers _ _ _ _ _ _ _ _ c.in-Some.ensures.steps c.loop-item.invariant _ _ c.put_drop-m.ensures
+pub put_refs-requires-clause-room : goal.put_refs-requires-clause-room
+put_refs-requires-clause-room c = let item : InLeaf → Fields = λ d. d.item in (
+  map item (left c.args.chain),
+  YieldsList-from_map_by _ fields item (YieldsList-at c.map.ensures.source (YieldsList-from_first leaf left (left c.args.chain) refl)) c.map.ensures.closure (λ x r q k. search (rules, tests)),
+  omega (arith, c.requires, length-map (left c.args.chain) item),
+)
 
 pub returns : goal.returns
-returns c = chain_done ref_numbers _ _ _ _ _ _ c.in-None.ensures.steps.0 c.loop-item.invariant
+returns c = let item : InLeaf → Fields = λ d. d.item in
+    laid_same ref_numbers 2 _ _ _ _ _ _ (sym (map-map _ item (left c.args.chain)))
+    (c.put_refs.ensures _ (YieldsList-from_map_by _ fields item (YieldsList-at c.map.ensures.source (YieldsList-from_first leaf left (left c.args.chain) refl)) c.map.ensures.closure (λ x r q k. search (rules, tests))))
