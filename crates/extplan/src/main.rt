@@ -7,12 +7,15 @@ ghost use Rattle.plan_def.specs.Outputs.{outs_in};
 ghost use Rattle.extplan_reply.specs.Replies.{Replied};
 
 use plan_def::Outputs;
+use print_field::Line;
+use read_store::Store;
 use records::refusal::Refusal;
 use request::Numbers;
 use std::io;
 use std::io::Read;
 
-// Reads until the buffer is full or the input ends, and returns how many bytes it put at the start of it.
+// Reads until the buffer is full or the input ends, and returns how many bytes it put at the start of it. (A loop with `while`:
+// `read_exact` does not say how many there were before the end.)
 fn read_full(from: &mut impl Read, buffer: &mut [u8]) -> io::Result<usize>
     ensures { IfOk result (λ n. n ≤ length buffer.new) }
 {
@@ -36,8 +39,9 @@ fn write_lines(
 ) -> io::Result<()>
     requires { Replied input.now reply (outs_in out.now) }
 {
+    let mut line = Line::new();
     for n in 0..1000000 {
-        let line = extplan_reply::reply_line(input, reply, out, n);
+        extplan_reply::reply_line(input, reply, out, n, &mut line);
         if line.bytes().is_empty() {
             return Ok(());
         }
@@ -68,6 +72,12 @@ fn answer(rt: &impl Print, input: &[u8]) -> io::Result<()>
     let mut releases = [0u64; 18724];
     let mut adds = [0u64; 19659];
     let mut writes = [0u64; 8];
+    let mut store = Store {
+        items: &mut items,
+        shared: &mut shared,
+        table: &mut table,
+        places: &mut places,
+    };
     let mut out = Outputs {
         edits: &mut edits,
         shares: &mut shares,
@@ -76,14 +86,7 @@ fn answer(rt: &impl Print, input: &[u8]) -> io::Result<()>
         adds: &mut adds,
         writes: &mut writes,
     };
-    let reply = extplan_reply::answer(
-        input,
-        &mut items,
-        &mut shared,
-        &mut table,
-        &mut places,
-        &mut out,
-    );
+    let reply = extplan_reply::answer(input, &mut store, &mut out);
     write_lines(rt, input, reply, &out)
 }
 
@@ -98,7 +101,9 @@ fn main(rt: HostRuntime) -> io::Result<()> {
     }
     if n == 65536 {
         // "more bytes `(line 0)`"
-        return rt.write_all(print_line::fault_line(0).bytes());
+        let mut line = Line::new();
+        print_line::fault_line(&mut line, 0);
+        return rt.write_all(line.bytes());
     }
     Err(io::Error::other("read"))
 }

@@ -32,18 +32,21 @@ pub fn answer(
     Ok(extplan_operate::operate(read, request, items, shared, table, places, out))
 }
 
-// Line n, from 0, of the answer to an input whose reply is in the outputs; an empty one where there are not so many.
+// Line n, from 0, of the answer to an input whose reply is in the outputs, in place of what the line was; empty where there are
+// not so many.
 pub fn reply_line(
     input: &[u8],
     reply: Result<Result<Option<Numbers>, Refusal>, usize>,
     out: &Outputs,
     n: usize,
-) -> Line
+    line: &mut Line,
+)
     requires { Replied input.now reply (outs_in out.now) }
-    ensures { result ≡ line_at n (answer_to input.now) }
+    ensures { line.new ≡ line_at n (answer_to input.now) }
 {
     match reply {
-        Ok(answer) => print_answer::answer_line(answer, out, n),
-        Err(fault) => print_answer::only_line(print_line::fault_line(fault as u64), n),
+        Ok(answer) => print_answer::answer_line(answer, out, n, line),
+        Err(fault) if n == 0 => print_line::fault_line(line, fault as u64),
+        Err(_) => line.clear(),
     }
 }

@@ -37,19 +37,25 @@ impl Line {
         }
     }
 
-    // A line that begins with a text.
-    pub fn of(text: &[u8]) -> Self
-        ensures { result ≡ added [] text.now }
-    {
-        let mut line = Line::new();
-        line.text(text);
-        line
-    }
-
     pub fn bytes(&self) -> &[u8]
         ensures { result.now ≡ self.now }
     {
         &self.bytes[..self.used]
+    }
+
+    // Empties it.
+    pub fn clear(&mut self)
+        ensures { self.new ≡ [] }
+    {
+        self.used = 0;
+    }
+
+    // Begins it anew, with a text.
+    pub fn begin(&mut self, text: &[u8])
+        ensures { self.new ≡ added [] text.now }
+    {
+        self.clear();
+        self.text(text);
     }
 
     // A text.
@@ -133,9 +139,9 @@ impl Line {
 
     // The line of an item that is put.
     pub fn put(&mut self, item: Item)
-        ensures { self.new ≡ added self.old (put_line (fields item)) }
+        ensures { self.new ≡ added [] (put_line (fields item)) }
     {
-        self.text(b"(put");
+        self.begin(b"(put");
         self.item_fields(item);
         self.added_fields(item);
         self.text(b")\n");

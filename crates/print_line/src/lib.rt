@@ -1,4 +1,4 @@
-// The lines that extplan prints, each put together of its parts.
+// The lines that extplan prints, each put together of its parts. What the line was before is gone.
 #![tactic(auto, using(print_field::proofs::Parts::parts, crate::proofs::Bounds::wholes))]
 
 ghost use Rattle.std.specs.Prelude.{◌≡◌, ◌≤◌};
@@ -11,91 +11,85 @@ use records::refusal::Refusal;
 
 // Nothing to do.
 #[tactic(auto, unfolding(print_field::specs::Added::added))]
-pub fn nothing_line() -> Line
-    ensures { result ≡ nothing_line }
+pub fn nothing_line(line: &mut Line)
+    ensures { line.new ≡ nothing_line }
 {
-    Line::of(b"(nothing)\n")
+    line.begin(b"(nothing)\n");
 }
 
 // A word and a number.
-fn number_line(word: &[u8], n: u64) -> Line
+fn number_line(line: &mut Line, word: &[u8], n: u64)
     requires { length word.now ≤ 8 }
-    ensures { result ≡ number_line word.now n }
+    ensures { line.new ≡ number_line word.now n }
 {
-    let mut line = Line::of(word);
+    line.begin(word);
     line.spaced(n);
     line.text(b")\n");
-    line
 }
 
 // A refusal.
-pub fn refused_line(refusal: Refusal) -> Line
-    ensures { result ≡ refused_line (number refusal) }
+pub fn refused_line(line: &mut Line, refusal: Refusal)
+    ensures { line.new ≡ refused_line (number refusal) }
 {
-    number_line(b"(refused", refusal.number() as u64)
+    number_line(line, b"(refused", refusal.number() as u64);
 }
 
 // An input line that can't be read.
-pub fn fault_line(n: u64) -> Line
-    ensures { result ≡ fault_line n }
+pub fn fault_line(line: &mut Line, n: u64)
+    ensures { line.new ≡ fault_line n }
 {
-    number_line(b"(line", n)
+    number_line(line, b"(line", n);
 }
 
 // A plan's first line.
-pub fn plan_line(size: u64, bytes: u64, prealloc: bool) -> Line
-    ensures { result ≡ plan_line size bytes prealloc }
+pub fn plan_line(line: &mut Line, size: u64, bytes: u64, prealloc: bool)
+    ensures { line.new ≡ plan_line size bytes prealloc }
 {
-    let mut line = Line::of(b"(plan");
+    line.begin(b"(plan");
     line.field(b"size", size);
     line.field(b"bytes", bytes);
     line.field(b"prealloc", u64::from(prealloc));
     line.text(b")\n");
-    line
 }
 
 // An item that is deleted.
-pub fn delete_line(key: u64) -> Line
-    ensures { result ≡ delete_line key }
+pub fn delete_line(line: &mut Line, key: u64)
+    ensures { line.new ≡ delete_line key }
 {
-    let mut line = Line::of(b"(delete");
+    line.begin(b"(delete");
     line.field(b"key", key);
     line.text(b")\n");
-    line
 }
 
 // A reference, under the word of its line.
-pub fn ref_line(word: &[u8], start: u64, offset: u64) -> Line
+pub fn ref_line(line: &mut Line, word: &[u8], start: u64, offset: u64)
     requires { length word.now ≤ 8 }
-    ensures { result ≡ ref_line word.now (record { start = start; offset = offset }) }
+    ensures { line.new ≡ ref_line word.now (record { start = start; offset = offset }) }
 {
-    let mut line = Line::of(word);
+    line.begin(word);
     line.field(b"at", start);
     line.field(b"ref", offset);
     line.text(b")\n");
-    line
 }
 
 // A new extent.
-pub fn add_line(start: u64, length: u64, key: u64) -> Line
-    ensures { result ≡ add_line (record { start = start; length = length; key = key }) }
+pub fn add_line(line: &mut Line, start: u64, length: u64, key: u64)
+    ensures { line.new ≡ add_line (record { start = start; length = length; key = key }) }
 {
-    let mut line = Line::of(b"(add");
+    line.begin(b"(add");
     line.field(b"at", start);
     line.field(b"len", length);
     line.field(b"key", key);
     line.text(b")\n");
-    line
 }
 
 // A sector write.
-pub fn write_line(key: u64, at: u64, first: u64, end: u64) -> Line
-    ensures { result ≡ write_line (record { key = key; at = at; first = first; end = end }) }
+pub fn write_line(line: &mut Line, key: u64, at: u64, first: u64, end: u64)
+    ensures { line.new ≡ write_line (record { key = key; at = at; first = first; end = end }) }
 {
-    let mut line = Line::of(b"(write");
+    line.begin(b"(write");
     line.field(b"key", key);
     line.field(b"at", at);
     line.pair(b"zero", first, end);
     line.text(b")\n");
-    line
 }

@@ -9,47 +9,46 @@ use print_field::Line;
 
 // An edit.
 #[tactic(auto, using(crate::proofs::Lines::edit_delete))]
-pub fn edit_line(edits: &[u8], n: usize) -> Line
+pub fn edit_line(edits: &[u8], n: usize, line: &mut Line)
     requires { n < length edits.now / 71 }
-    ensures { result ≡ edit_line (edit_in (drop (n * 71) edits.now)) }
+    ensures { line.new ≡ edit_line (edit_in (drop (n * 71) edits.now)) }
 {
     let item = plan_lines::edit_item(edits, n);
     if plan_lines::is_put(edits, n) {
-        let mut line = Line::new();
-        line.put(item);
-        return line;
+        return line.put(item);
     }
-    print_line::delete_line(item.key)
+    print_line::delete_line(line, item.key);
 }
 
 // A share, an unref or a release, by its word.
 #[tactic(auto, using(crate::proofs::Lines::ref_read))]
-pub fn ref_line(word: &[u8], refs: &[u64], n: usize) -> Line
+pub fn ref_line(word: &[u8], refs: &[u64], n: usize, line: &mut Line)
     requires { (length word.now ≤ 8) × (n < length refs.now / 2) }
-    ensures { result ≡ ref_line word.now (ref_in (drop (n * 2) refs.now)) }
+    ensures { line.new ≡ ref_line word.now (ref_in (drop (n * 2) refs.now)) }
 {
-    print_line::ref_line(word, refs[n * 2], refs[n * 2 + 1])
+    print_line::ref_line(line, word, refs[n * 2], refs[n * 2 + 1]);
 }
 
 // An add.
 #[tactic(auto, using(crate::proofs::Lines::add_read))]
-pub fn add_line(adds: &[u64], n: usize) -> Line
+pub fn add_line(adds: &[u64], n: usize, line: &mut Line)
     requires { n < length adds.now / 3 }
-    ensures { result ≡ add_line (add_in (drop (n * 3) adds.now)) }
+    ensures { line.new ≡ add_line (add_in (drop (n * 3) adds.now)) }
 {
-    print_line::add_line(adds[n * 3], adds[n * 3 + 1], adds[n * 3 + 2])
+    print_line::add_line(line, adds[n * 3], adds[n * 3 + 1], adds[n * 3 + 2]);
 }
 
 // A sector write.
 #[tactic(auto, using(crate::proofs::Lines::write_read))]
-pub fn write_line(writes: &[u64], n: usize) -> Line
+pub fn write_line(writes: &[u64], n: usize, line: &mut Line)
     requires { n < length writes.now / 4 }
-    ensures { result ≡ write_line (write_in (drop (n * 4) writes.now)) }
+    ensures { line.new ≡ write_line (write_in (drop (n * 4) writes.now)) }
 {
     print_line::write_line(
+        line,
         writes[n * 4],
         writes[n * 4 + 1],
         writes[n * 4 + 2],
         writes[n * 4 + 3],
-    )
+    );
 }
