@@ -12,6 +12,7 @@ use lib.Seq.{drop-cons}
 use borrow.Author.Tests.{lt-leb, le-leb}
 use Rattle.std.specs.List.{prefix_len}
 use Rattle.std.proofs.lemmas.List.Folds.{length-prefix_len}
+use Rattle.std.proofs.lemmas.List.Sums.{prefix_len-le-length}
 use Rattle.read_field.specs.Decimal.{is_digit, digits, pushed, value, plain}
 use Rattle.read_field.specs.Parts.{number}
 
@@ -79,3 +80,10 @@ module _ (s : List ℕ) (n limit : ℕ) (ds : List ℕ) (e : n ≡ prefix_len is
   number-read h v g l t k =
       let m : n ≡ length (digits s) = rw (← first_digits, f, e) (sym (length-prefix_len is_digit s)) in
       rw (← first_digits, h, ← g, le-leb v limit l, first_digits, ← m, k) refl
+
+-- what the readers of numbers are proved by
+pub ruleset plain_laws = (plain_none, plain_one, plain-many)
+
+pub ruleset value_laws = (value-turn, value-over, value-done)
+
+pub ruleset number_laws = (prefix_len-le-length, number-mixed, number-large, number-read)

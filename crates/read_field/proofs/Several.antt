@@ -13,7 +13,7 @@ use Rattle.std.proofs.lemmas.Slice.{take-put_mid, drop-put_mid}
 use Rattle.read_field.specs.declared.Field.{Field}
 use Rattle.read_field.specs.Parts.{Part, give, more, into}
 use Rattle.read_field.specs.Raw.{field_by, total, fields_by}
-use Rattle.read_field.proofs.Steps.{more-more}
+use Rattle.read_field.proofs.Steps.{more-nil, more-more}
 
 -- what is the same from a place on is the same from a later one on
 same_later : (a b : List ℕ) (k n : ℕ) → k ≤ n → drop k a ≡ drop k b → drop n a ≡ drop n b
@@ -75,3 +75,5 @@ module _ (fs : List Field) (i k : ℕ) (values initial s : List ℕ) (all : Opti
   pub done : length fs ≤ i → give (take (total fs) values) s ≡ all
   unfolding more
   done l = let m : k ≡ total fs = rw (drop_of_length-le fs l, add-zero) at t in rw (← m) (rw (drop_of_length-le fs l, append-nil) at h)
+
+pub ruleset several_laws = (more-nil, kept_all, unread, done)

@@ -116,3 +116,7 @@ module _ (w limits missing s : List ℕ) where
     pub field-closed : (vs u : List ℕ) (r : Maybe (Bor (List ℕ))) → give vs u ≡ numbers limits t → part [] r ≡ word (bytes ")") u → part vs r ≡ field_by w limits missing s
     unfolding into
     field-closed vs u r f g = rw (← field-there t e, ← f, ← g) (part-more vs r)
+
+pub ruleset places_laws = (places-all, places-no_space, places-no_number, places-turn, places-done)
+
+pub ruleset field_laws = (field-missing, field-no_numbers, field-closed)

@@ -9,6 +9,7 @@ ghost use Rattle.read_field.specs.Parts.{word, number, numbers};
 ghost use Rattle.read_field.specs.Raw.{part, counted, field_by, total, fields_by};
 
 // The text behind a fixed word.
+#[tactic(auto, using(crate::proofs::Steps::word_is))]
 pub fn word<'a>(s: &'a [u8], text: &[u8]) -> Option<&'a [u8]>
     ensures { part [] result ≡ word text.now s.now }
 {
@@ -23,6 +24,7 @@ fn digit_count(s: &[u8]) -> usize
 }
 
 // Whether digits may be a number: there is one, and "0" stands before no other.
+#[tactic(auto, using(crate::proofs::Runs::plain_laws))]
 fn is_plain(digits: &[u8]) -> bool
     ensures { result ≡ plain digits.now }
 {
@@ -34,6 +36,7 @@ fn is_plain(digits: &[u8]) -> bool
 }
 
 // The number that digits make; None where it needs more than 64 bits.
+#[tactic(auto, using(crate::proofs::Runs::value_laws))]
 fn value(digits: &[u8]) -> Option<u64>
     ensures { MatchOption result (2 ^ 64 ≤ value 0 digits.now) (λ v. v ≡ value 0 digits.now) }
 {
@@ -47,6 +50,7 @@ fn value(digits: &[u8]) -> Option<u64>
 }
 
 // A number of at most `limit`.
+#[tactic(auto, using(crate::proofs::Runs::number_laws))]
 pub fn number(s: &[u8], limit: u64) -> Option<(u64, &[u8])>
     ensures { counted result ≡ number limit s.now }
 {
@@ -62,6 +66,7 @@ pub fn number(s: &[u8], limit: u64) -> Option<(u64, &[u8])>
 }
 
 // Numbers with one limit, each behind one space: as many as there are places for them.
+#[tactic(auto, using(crate::proofs::Steps::places_laws))]
 pub fn numbers<'a>(s: &'a [u8], places: &mut [u64], limit: u64) -> Option<&'a [u8]>
     ensures { part places.new result ≡ numbers (replicate (length places.old) limit) s.now }
 {
@@ -80,6 +85,7 @@ pub struct Field(pub &'static [u8], pub usize, pub u64);
 
 impl Field {
     // Its numbers; where it isn't there they are 0.
+    #[tactic(auto, using(crate::proofs::Steps::field_laws))]
     pub fn read<'a>(&self, s: &'a [u8], places: &mut [u64]) -> Option<&'a [u8]>
         ensures { part places.new result ≡ field_by self.now.0.now (replicate (length places.old) self.now.2) (replicate (length places.old) 0) s.now }
     {
@@ -92,6 +98,7 @@ impl Field {
 }
 
 // The numbers of fields in this order, at the start of `values`.
+#[tactic(auto, using(crate::proofs::Several::several_laws))]
 pub fn fields<'a>(s: &'a [u8], fields: &[Field], values: &mut [u64]) -> Option<&'a [u8]>
     requires { total fields.now ≤ length values.old }
     ensures read { part (take (total fields.now) values.new) result ≡ fields_by fields.now s.now }
