@@ -124,6 +124,7 @@ static SHAPES: [Shape; 8] = [
 
 impl Shape {
     // What stands behind such a line's word, to the line's end.
+    #[tactic(auto, using(crate::proofs::Behind::behind_laws), unfolding(read_field::specs::Parts::into, read_field::specs::Parts::more))]
     fn read(&self, behind: &[u8]) -> Option<Form>
         requires { self.now.count + total self.now.fields.now ≤ 12 }
         ensures { line_in result ≡ line_of (kind_number self.now.kind) (whole_by self.now behind.now) }
