@@ -28,9 +28,9 @@ use Rattle.ref_def.specs.declared.Leaves.{Leaves}
 use Rattle.plan_lines.specs.Lines.{Laid}
 use Rattle.plan_lines.proofs.Laws.{Going, going_first, going_done}
 use Rattle.std.specs.declared.ops.Range.{Range}
-use Rattle.drop_chains.specs.Chains.{along, From, Onward, freed, line_in, unref_lines, release_lines}
+use Rattle.drop_chains.specs.Chains.{along, From, Onward, byte_in, freed, line_in, unref_lines, release_lines}
 use Rattle.drop_chains.specs.Links.{drops_by, drop_at, Links, linked, Blank, Linked}
-use Rattle.drop_chains.proofs.Walks.{along_nil, along_at, along_set}
+use Rattle.drop_chains.proofs.Walks.{along_nil, along_at, along_set, freed_released}
 use Rattle.drop_chains.proofs.Reading.{leaves_many, leaves_here}
 
 -- ---- which row a drop is of
@@ -240,21 +240,21 @@ module _ (dropped : Fields → Bool) (hs : List InLeaf) where
   drops-at start = keep-keep (λ (d : InLeaf). eqb d.item.extent_start start) (λ (d : InLeaf). dropped d.item) hs
 
   pub releases_chained : (rs : List Row) → releases rs (drops_by dropped hs) ≡ flat_map (row_chain release_lines dropped hs) rs
-  releases_chained rs = flat_same _ (row_chain release_lines dropped hs) (λ row. rw (drops-at row.start) refl) rs
+  releases_chained rs = flat_same _ (row_chain release_lines dropped hs) (λ row. rw (drops-at row.start, freed_released row.references (keep (drop_at dropped row.start) hs)) refl) rs
 
   pub unrefs_chained : (rs : List Row) → unrefs rs (drops_by dropped hs) ≡ flat_map (row_chain unref_lines dropped hs) rs
-  unrefs_chained rs = flat_same _ (row_chain unref_lines dropped hs) (λ row. rw (drops-at row.start) refl) rs
+  unrefs_chained rs = flat_same _ (row_chain unref_lines dropped hs) (λ row. rw (drops-at row.start, freed_released row.references (keep (drop_at dropped row.start) hs)) refl) rs
 
 -- a chain without a drop has no line
 pub no_release : (n : ℕ) → release_lines n [] ≡ []
-no_release n = go (freed n [])
+no_release n = go (freed n (map byte_in []))
   where
     go : (b : Bool) → cond b (map line_in []) [] ≡ []
     go true = refl
     go false = refl
 
 pub no_unref : (n : ℕ) → unref_lines n [] ≡ []
-no_unref n = go (freed n [])
+no_unref n = go (freed n (map byte_in []))
   where
     go : (b : Bool) → cond b [] (map line_in []) ≡ []
     go true = refl

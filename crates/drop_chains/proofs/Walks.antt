@@ -1,16 +1,18 @@
 -- Laws of chains: what a walk along one takes, counts and lays. Assumes nothing.
 use mathlib.Core.Path.{◌≡◌, refl, ap, ap₂, ◌∙◌, sym}
-use mathlib.Core.Bool.{Bool, true, false, cond, ◌&&◌, and-true, and_assoc}
-use mathlib.Core.List.{List, [], ◌∷◌}
+use mathlib.Core.Bool.{Bool, true, false, cond, ◌&&◌, and-true, and-false}
+use mathlib.Core.List.{List, [], ◌∷◌, map}
 use Prim.Native.Nat.{ℕ, zero, suc, ◌+◌, ◌<◌, ◌≤◌}
 use native.Mathlib.Omega.{arith}
 use lib.Dec.{eqb}
-use lib.ListN.{length, get_or, set, drop}
+use lib.ListN.{length, get_or, set, drop, length-map}
 use lib.Seq.{drop-cons, get_or-set_other}
-use borrow.Author.Tests.{eq-eqb, ne_eqb}
+use borrow.Author.Tests.{eq-eqb, ne_eqb, eqb-true}
 use Rattle.records.specs.Stages.{every}
 use Rattle.ref_def.specs.Drops.{InLeaf}
-use Rattle.drop_chains.specs.Chains.{along, From, unshared, freed, unref_lines, release_lines}
+use Rattle.records.proofs.Lists.{every-mapped}
+use Rattle.records.proofs.Tests.{every-at}
+use Rattle.drop_chains.specs.Chains.{along, From, byte_in, unshared, freed, unref_lines, release_lines}
 
 module _ {A : Type 0} where
   along_yes : (nexts : List ℕ) (i h : ℕ) (x : A) (l : List A) → h ≡ i + 1 → along nexts i h (x ∷ l) ≡ x ∷ along nexts (i + 1) (get_or nexts i 0) l
@@ -69,36 +71,27 @@ module _ {A : Type 0} where
       go true p q = omega arith
       go false p q = omega arith
 
--- ---- what a walk counts and tests
+-- ---- whether drops free their extent, from their shared bytes
 
--- what was counted and tested so far, with what is left, is the whole
-pub record Tally (all left : List InLeaf) (n : ℕ) (b : Bool) : Type 0 where
-  pub number : n + length left ≡ length all
-  pub free : (b && every unshared left) ≡ every unshared all
+-- one of them is of a shared leaf
+pub freed_held : (references : ℕ) (bytes : List ℕ) (i b : ℕ) → i < length bytes → b ≡ get_or bytes i b → (b ≡ 0 → ⊥) → false ≡ freed references bytes
+freed_held references bytes i b h e n = go (every unshared bytes) refl
+  where
+    go : (u : Bool) → every unshared bytes ≡ u → false ≡ freed references bytes
+    go true q = absurd (n (e ∙ eqb-true (get_or bytes i b) 0 (every-at unshared bytes q i b h)))
+    go false q = rw q (sym (and-false (eqb references (length bytes))))
 
-pub tally_first : (all left : List InLeaf) → left ≡ all → Tally all left 0 true
-tally_first all left e = record { number = rw e (omega arith); free = rw e refl }
+-- none is
+pub freed_count : (references : ℕ) (bytes : List ℕ) (n : ℕ) → every unshared bytes ≡ true → n ≡ length bytes → eqb references n ≡ freed references bytes
+freed_count references bytes n q e = rw (q, e) (sym (and-true (eqb references (length bytes))))
 
-module _ (all left : List InLeaf) (n : ℕ) (b : Bool) (t : Tally all left n b) where
-  pub tally_next : (rest : List InLeaf) (d : InLeaf) (b' : Bool) → left ≡ d ∷ rest → b' ≡ (b && unshared d) → Tally all rest (n + 1) b'
-  unfolding every
-  tally_next rest d b' e q =
-      record {
-        number = omega (arith, t.number, ap length e);
-        free = ap (λ (x : Bool). x && every unshared rest) q ∙ and_assoc b (unshared d) (every unshared rest) ∙ ap (λ (l : List InLeaf). b && every unshared l) (sym e) ∙ t.free;
-      }
-
-  pub tally_end : left ≡ [] → (n ≡ length all) × (b ≡ every unshared all)
-  unfolding every
-  tally_end e = (omega (arith, t.number, ap length e), sym (and-true b) ∙ ap (λ (l : List InLeaf). b && every unshared l) (sym e) ∙ t.free)
-
-  -- the answer, from what was counted and tested
-  pub tally_freed : left ≡ [] → (references : ℕ) → (eqb references n && b) ≡ freed references all
-  tally_freed e references = let z = tally_end e in rw (← z.0, ← z.1) refl
+-- as the definition has it, from the drops
+pub freed_released : (references : ℕ) (ds : List InLeaf) → freed references (map byte_in ds) ≡ (eqb references (length ds) && every (λ (d : InLeaf). eqb d.shared 0) ds)
+freed_released references ds = ap₂ (λ (n : ℕ) (b : Bool). eqb references n && b) (length-map ds byte_in) (every-mapped unshared byte_in ds)
 
 -- ---- lines of one kind that there are none of
 
-module _ (references : ℕ) (ds : List InLeaf) (b : Bool) (e : b ≡ freed references ds) where
+module _ (references : ℕ) (ds : List InLeaf) (b : Bool) (e : b ≡ freed references (map byte_in ds)) where
   pub freed_unrefs : b ≡ true → unref_lines references ds ≡ []
   freed_unrefs h = rw (sym e ∙ h) refl
 

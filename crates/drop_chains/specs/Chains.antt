@@ -17,19 +17,27 @@ From i n h = (h ≡ 0 → ⊥) → (i < h) × (h ≤ n)
 abbrev pub Onward : ℕ → List ℕ → Type 0
 Onward n nexts = (j : ℕ) → j < n → From (j + 1) n (get_or nexts j 0)
 
--- the drops of an extent free it: they are all its references, and none of their leaves is shared
-abbrev pub unshared : InLeaf → Bool
-unshared d = eqb d.shared 0
+-- a shared byte as it is, and of a leaf that is not shared
+abbrev pub byte : ℕ → ℕ
+byte b = b
 
-abbrev pub freed : ℕ → List InLeaf → Bool
-freed references ds = eqb references (length ds) && every unshared ds
+abbrev pub unshared : ℕ → Bool
+unshared b = eqb b 0
+
+-- the drops of an extent free it, by their shared bytes: they are all its references, and none of their leaves is shared
+abbrev pub freed : ℕ → List ℕ → Bool
+freed references bytes = eqb references (length bytes) && every unshared bytes
+
+-- a drop's shared byte, and its line
+abbrev pub byte_in : InLeaf → ℕ
+byte_in d = d.shared
 
 abbrev pub line_in : InLeaf → Ref
 line_in d = ref_of d.item
 
 -- their lines: releases if they free it, else unrefs
 abbrev pub release_lines : ℕ → List InLeaf → List Ref
-release_lines references ds = cond (freed references ds) (map line_in ds) []
+release_lines references ds = cond (freed references (map byte_in ds)) (map line_in ds) []
 
 abbrev pub unref_lines : ℕ → List InLeaf → List Ref
-unref_lines references ds = cond (freed references ds) [] (map line_in ds)
+unref_lines references ds = cond (freed references (map byte_in ds)) [] (map line_in ds)

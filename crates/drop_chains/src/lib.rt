@@ -5,7 +5,9 @@
 
 pub mod chain;
 
-ghost use Rattle.std.specs.Prelude.{◌≡◌, Bool, [], ◌∷◌, map, ◌+◌, ◌≤◌, ◌<◌, ◌^◌, length};
+ghost use Rattle.std.specs.Prelude.{◌≡◌, Bool, List, ℕ, [], ◌∷◌, map, ◌+◌, ◌≤◌, ◌<◌, ◌^◌, length};
+ghost use Rattle.std.specs.Iterator.{IsFinite};
+ghost use Rattle.std.proofs.lemmas.Iterator.{YieldsList};
 ghost use Rattle.records.specs.Lent.{old, new};
 ghost use Rattle.item.specs.Items.{Fields, fields};
 ghost use Rattle.table.specs.Rows.{rows, find};
@@ -14,7 +16,7 @@ ghost use Rattle.plan_def.specs.Outputs.{ref_numbers};
 ghost use Rattle.plan_lines.specs.Lines.{Laid};
 ghost use Rattle.ref_def.specs.Drops.{releases as all_releases, unrefs as all_unrefs};
 ghost use Rattle.ref_def.specs.Lent.{leaves_of};
-ghost use Rattle.drop_chains.specs.Chains.{freed, line_in, unref_lines, release_lines};
+ghost use Rattle.drop_chains.specs.Chains.{byte, byte_in, freed, line_in, unref_lines, release_lines};
 ghost use Rattle.drop_chains.specs.Links.{drops_by, links, linked, Linked};
 ghost use Rattle.drop_chains.specs.Reading.{left};
 
@@ -31,17 +33,28 @@ pub struct DropCounts {
     pub releases: usize,
 }
 
-// Whether the drops of a chain free their extent.
-fn is_freed(references: u64, chain: Chain) -> bool
-    ensures { result ≡ freed references (left chain.entry) }
+// Whether the drops of an extent free it, by their shared bytes: they are all its references, and none of their leaves is shared.
+pub fn is_freed<I: Iterator<Item = u8> + Drop>(references: u64, bytes: I) -> bool
+    requires can { I.can_next bytes }
+    requires ends { IsFinite (I.remaining bytes) }
+    requires few { (bs : List ℕ) × YieldsList I.next_gives byte bytes bs × (length bs < 2 ^ 64) }
+    ensures { (bs : List ℕ) → YieldsList I.next_gives byte bytes bs → result ≡ freed references bs }
 {
     let mut drops: u64 = 0;
-    let mut free = true;
-    for (_, byte) in chain {
+    for byte in bytes {
+        if byte != 0 {
+            return false;
+        }
         drops += 1;
-        free &= byte == 0;
     }
-    references == drops && free
+    references == drops
+}
+
+// Whether the drops of a chain do.
+fn is_chain_freed(references: u64, chain: Chain) -> bool
+    ensures { result ≡ freed references (map byte_in (left chain.entry)) }
+{
+    is_freed(references, chain.map(|(_, byte)| byte))
 }
 
 // A line for each drop of a chain.
@@ -64,7 +77,7 @@ fn put_chain(
     ensures unrefs { Laid ref_numbers 2 at.unrefs (unref_lines references (left chain.entry)) unrefs.old result.unrefs unrefs.new }
     ensures releases { Laid ref_numbers 2 at.releases (release_lines references (left chain.entry)) releases.old result.releases releases.new }
 {
-    if is_freed(references, chain) {
+    if is_chain_freed(references, chain) {
         let n = put_all(chain, releases, at.releases);
         return DropCounts { releases: n, ..at };
     }

@@ -1,4 +1,4 @@
 pub mod Refusals
-pub mod Tallies
+pub mod Released
 pub mod Rows
 pub mod Cuts

@@ -23,7 +23,7 @@ use Rattle.ref_def.proofs.Drops.{drops-number, leaves-length}
 use Rattle.drop_lines.specs.declared.Cut.{Cut}
 use Rattle.drop_lines.specs.Dropped.{dropped, drops_in}
 use Rattle.drop_lines.specs.Raw.{drop_of, line_of, lines_at, row_releases, row_unrefs}
-use Rattle.drop_lines.proofs.Tallies.{of_extent, drops_of_lem}
+use Rattle.drop_lines.proofs.Released.{of_extent, drops_of_lem}
 
 -- ---- the lines of one extent: the shared bytes do not count
 

@@ -109,17 +109,11 @@ fn is_drop_of(c: Cut, start: u64, item: Item) -> bool
 pub fn is_released(c: Cut, leaves: Leaves, row: Row) -> bool
     ensures { result ≡ released (cut_drops c leaves.entry) row }
 {
-    let start = row.start;
-    let mut drops: u64 = 0;
-    for (item, byte) in item::items(leaves.list).zip(leaves.shared) {
-        if is_drop_of(c, start, item) {
-            if *byte != 0 {
-                return false;
-            }
-            drops += 1;
-        }
-    }
-    row.references == drops
+    let bytes = item::items(leaves.list)
+        .zip(leaves.shared)
+        .filter(|(item, _)| is_drop_of(c, row.start, *item))
+        .map(|(_, byte)| *byte);
+    drop_chains::is_freed(row.references, bytes)
 }
 
 // A line for each drop of the extent at `start`, in list order.

@@ -1,40 +1,29 @@
+use Rattle.std.proofs.Common.{rules, tests}
+use Rattle.std.proofs.lemmas.Slice.Zip.{length-zip}
+use Rattle.std.proofs.lemmas.Iterator.{YieldsList-from_slice, YieldsList-from_zip, YieldsList-from_map}
+use Rattle.std.proofs.lemmas.Iterator.Consumers.{YieldsList-at, YieldsList-from_first, YieldsList-from_filter}
 use native.Mathlib.Omega.{arith}
-use mathlib.Core.Path.{ap}
-use Rattle.records.specs.Select.{keep}
-use Rattle.item.specs.Items.{items}
-use Rattle.item.proofs.Laws.{items-length}
-use Rattle.ref_def.specs.Lent.{leaves_of}
-use Rattle.ref_def.proofs.Drops.{leaves-length}
-use Rattle.ref_def.proofs.Zipped.{leaves_more, leaves_end}
-use Rattle.drop_chains.proofs.Walks.{tally_first}
-use Rattle.drop_lines.proofs.Tallies.{of_extent, tally_room, tally_skip, tally_held, tally_more, released-held, released-tally}
+use mathlib.Core.List.{map}
+use mathlib.Core.Path.{◌∙◌}
+use lib.ListN.{length-map}
+use Rattle.std.specs.List.{filter, zip}
+use Rattle.item.specs.Items.{fields, items}
+use Rattle.item.specs.Reading.{left}
+use Rattle.plan_lines.proofs.Filtered.{filter_few}
+use Rattle.drop_lines.proofs.Released.{paired, byte_of, released_bytes}
 use Rattle.drop_lines.proofs.is_released.Goals as goal
 
-pub loop-item-init : goal.loop-item-init
-loop-item-init c = tally_first _ _ (ap (keep (of_extent c.args.c c.args.row.start)) (cc))
-
-pub overflow_add-drops : goal.overflow_add-drops
-overflow_add-drops c =
-    let a = c.args in
-    let all = leaves_of a.leaves in
-    let m = tally_more (of_extent a.c a.row.start) all _ _ _ (leaves_more c.loop-item.item-iterator c.next.new.self _ _ _ c.in-Some.is c.next.ensures.steps) _ c.loop-item.invariant _ c.is_drop_of.ensures c.if-is_drop_of.true c.if-byte-ne0.false in
-    omega (arith, tally_room (of_extent a.c a.row.start) all _ _ m, leaves-length (items a.leaves.list.now) a.leaves.shared.now a.leaves.one_each, items-length a.leaves.list.now)
-
-pub returns-then-byte-ne0 : goal.returns-then-byte-ne0
-returns-then-byte-ne0 c =
-    let a = c.args in
-    released-held a.c a.row (items a.leaves.list.now) a.leaves.shared.now
-    (tally_held (of_extent a.c a.row.start) _ _ _ _ (leaves_more c.loop-item.item-iterator c.next.new.self _ _ _ c.in-Some.is c.next.ensures.steps) _ c.loop-item.invariant _ c.is_drop_of.ensures c.if-is_drop_of.true c.if-byte-ne0.true)
-
-pub loop-item-preserved-then-is_drop_of : goal.loop-item-preserved-then-is_drop_of
-loop-item-preserved-then-is_drop_of c =
-    let a = c.args in
-    tally_more (of_extent a.c a.row.start) _ _ _ _ (leaves_more c.loop-item.item-iterator c.next.new.self _ _ _ c.in-Some.is c.next.ensures.steps) _ c.loop-item.invariant _ c.is_drop_of.ensures c.if-is_drop_of.true c.if-byte-ne0.false
-
-pub loop-item-preserved : goal.loop-item-preserved
-loop-item-preserved c =
-    let a = c.args in
-    tally_skip (of_extent a.c a.row.start) _ _ _ _ (leaves_more c.loop-item.item-iterator c.next.new.self _ _ _ c.in-Some.is c.next.ensures.steps) _ c.loop-item.invariant _ c.is_drop_of.ensures c.if-is_drop_of.false
+pub is_freed-requires-clause-few : goal.is_freed-requires-clause-few
+is_freed-requires-clause-few c = let a = c.args in
+    let test = paired a.c a.row.start in
+    let all = zip (items a.leaves.list.now) a.leaves.shared.now in (
+      map byte_of (filter test all),
+      YieldsList-from_map _ byte_of (YieldsList-at c.map-bytes.ensures.source (YieldsList-from_filter _ test (YieldsList-at c.filter.ensures.source (YieldsList-from_zip (YieldsList-at c.zip.ensures.first (YieldsList-from_first fields left (items a.leaves.list.now) (cc))) (YieldsList-from_slice a.leaves.shared.now (cc)))) c.filter.ensures.closure (λ x r q k. search (rules, tests)))) c.map-bytes.ensures.closure (λ x r q k. search (rules, tests)),
+      omega (arith, length-map (filter test all) byte_of, filter_few test all, length-zip (items a.leaves.list.now) a.leaves.shared.now, c.ranges.leaves),
+    )
 
 pub returns : goal.returns
-returns c = released-tally c.args.c c.args.row _ _ _ _ (leaves_end c.loop-item.item-iterator c.next.new.self _ c.in-None.is c.next.ensures.steps) c.loop-item.invariant
+returns c = let a = c.args in
+    let test = paired a.c a.row.start in
+    c.is_freed.ensures _ (YieldsList-from_map _ byte_of (YieldsList-at c.map-bytes.ensures.source (YieldsList-from_filter _ test (YieldsList-at c.filter.ensures.source (YieldsList-from_zip (YieldsList-at c.zip.ensures.first (YieldsList-from_first fields left (items a.leaves.list.now) (cc))) (YieldsList-from_slice a.leaves.shared.now (cc)))) c.filter.ensures.closure (λ x r q k. search (rules, tests)))) c.map-bytes.ensures.closure (λ x r q k. search (rules, tests)))
+    ∙ released_bytes a.c a.row (items a.leaves.list.now) a.leaves.shared.now
