@@ -19,11 +19,6 @@ starts_before r (q ∷ qs) = ref_before q r
 
 -- ---- skipping
 
-pub past_is : (r : Ref) (l : List Ref) → past r l ≡ cond (starts_before r l) (past r (drop 1 l)) l
-unfolding past
-past_is r [] = refl
-past_is r (q ∷ qs) = refl
-
 -- what comes before all is not there
 without-before : (y : Ref) (l : List Ref) → every (ref_before y) l ≡ true → without y l ≡ l
 unfolding without every

@@ -168,6 +168,3 @@ module _ (xs ys : List (ℕ × ℕ)) (n : ℕ) (out₀ : List ℕ) where
 
 pub among-rises : (extents : List ℕ) (fs : List Fields) (l : List Ref) → l ≡ refs_among extents fs → ordered l ≡ true
 among-rises extents fs l e = rw e (sorted-ordered (refs_named extents fs))
-
-pub laid-minus : (n : ℕ) (p q a b : List Ref) (out : List ℕ) (m : ℕ) (out' : List ℕ) → p ≡ a → q ≡ b → Laid ref_numbers 2 n (minus p q) out m out' → Laid ref_numbers 2 n (minus a b) out m out'
-laid-minus n p q a b out m out' e f l = rw (e, f) at l

@@ -1,6 +1,6 @@
 -- For the code only: two lists of references in order, walked together; and those of a list's items.
 use Rattle.std.specs.Prelude.{Bool, false, cond, List, [], ◌∷◌, map, ℕ}
-use Rattle.records.specs.Select.{only, keep}
+use Rattle.records.specs.Select.{keep}
 use Rattle.item.specs.Items.{Fields}
 use Rattle.cut_def.specs.Refs.{Ref, ref_of, same_ref}
 use Rattle.ref_def.specs.Compared.{among, ref_before}
@@ -8,10 +8,6 @@ use Rattle.ref_def.specs.Compared.{among, ref_before}
 -- the references of the items that name one of these extents, in the list's order
 abbrev pub refs_named : List ℕ → List Fields → List Ref
 refs_named extents fs = map ref_of (keep (among extents) fs)
-
--- that of one item, if it does
-abbrev pub ref_named : List ℕ → Fields → List Ref
-ref_named extents f = only (among extents f) (ref_of f)
 
 -- the first of a list is r
 abbrev pub starts_with : Ref → List Ref → Bool

@@ -1,13 +1,6 @@
 use mathlib.Core.Path.{refl}
-use native.Mathlib.Omega.{arith}
-use Rattle.ref_minus.proofs.Turns.{walk_first, walk_met, walk_put, walk_done}
+use Rattle.ref_minus.proofs.Turns.{walk_met, walk_put, walk_done}
 use Rattle.ref_minus.proofs.put_minus.Goals as goal
-
-pub loop-x-init : goal.loop-x-init
-loop-x-init c = walk_first _ _ _ _ c.requires.1
-
-pub put_ref-m-requires : goal.put_ref-m-requires
-put_ref-m-requires c = omega (arith, c.loop-x.invariant.few, c.requires.2)
 
 pub loop-x-preserved-in-Some : goal.loop-x-preserved-in-Some
 loop-x-preserved-in-Some c = let h = c.in-Some.ensures.cases in

@@ -1,17 +1,12 @@
-use mathlib.Core.Path.{◌∙◌, sym, ap}
+use mathlib.Core.Path.{◌∙◌, sym}
 use mathlib.Core.List.{[], ◌∷◌}
 use native.Mathlib.Omega.{arith}
 use Prim.Native.Nat.{◌≤◌}
 use lib.ListN.{length}
 use Rattle.item.specs.Items.{items}
-use Rattle.item.specs.Reading.{left}
-use Rattle.ref_sort.proofs.Filling.{filling_all, filled_lines, filled_sorted}
-use Rattle.ref_minus.specs.Walk.{refs_named}
+use Rattle.ref_sort.proofs.Filling.{filled_lines, filled_sorted}
 use Rattle.ref_minus.proofs.Turns.{collect_over, collect_room, collect_turn, named_none, named-few}
 use Rattle.ref_minus.proofs.sorted_refs.Goals as goal
-
-pub loop-item-init : goal.loop-item-init
-loop-item-init c = filling_all _ _ _ (ap (λ r. refs_named (c.args.one ∷ c.args.two ∷ []) (left r)) c.into_iter-item-iterator.ensures.into_iter_gives ∙ ap (refs_named _) c.items-item-items.ensures.1)
 
 pub loop-item-preserved-then-not-is_among : goal.loop-item-preserved-then-not-is_among
 loop-item-preserved-then-not-is_among c = collect_over _ _ _ _ _ c.loop-item.invariant _ _ c.in-Some.ensures.steps (sym c.if-not-is_among.true ∙ c.is_among.ensures)
