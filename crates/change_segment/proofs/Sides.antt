@@ -139,10 +139,6 @@ module _ (g : Ground) (c : RangeChange) (size : ℕ) (p : Parts) (part : Parting
 
 -- ---- how many
 
-pub one-few : {A B : Type 0} (a : Option A) (f : A → B) → length (map f (option_to_list a)) ≤ 1
-one-few None f = omega arith
-one-few (Some x) f = omega arith
-
 pub sides-few : {A B : Type 0} (a b : Option A) (f h : A → B) → length (sides a b f h) ≤ 2
 sides-few a b f h = ways (λ a b. length (sides a b f h) ≤ 2) (λ x y. omega arith) (λ x. omega arith) (λ y. omega arith) (omega arith) a b
 

@@ -1,13 +1,12 @@
 -- Items put into a buffer of records: it is a list of items, set one by one. Assumes nothing.
 use mathlib.Core.Path.{◌≡◌, refl, ap, ap₂, ◌∙◌, sym}
-use mathlib.Core.List.{List, [], ◌∷◌, ◌++◌, append_assoc, append-nil}
+use mathlib.Core.List.{List, ◌∷◌, ◌++◌, append_assoc}
 use mathlib.Core.Bool.{Bool, true, false}
 use Prim.Native.Nat.{ℕ, zero, suc, ◌+◌, ◌*◌, ◌/◌, ◌^◌, ◌<◌, ◌≤◌}
 use native.Mathlib.Omega.{arith}
-use native.Mathlib.Nat.{add-zero, zero-add, add_assoc, zero-mul, mul-le-mul_right, le-div_iff_mul-le, div-mul-le_self}
+use native.Mathlib.Nat.{zero-add, add_assoc, zero-mul, mul-le-mul_right, le-div_iff_mul-le, div-mul-le_self}
 use lib.ListN.{length, take, drop, set, length-take, length-drop}
-use lib.Seq.{drop_at, take-take, take-append-le, drop-append-le, drop-drop, take-suc-set}
-use native.Mathlib.Numerals.{add-one}
+use lib.Seq.{drop_at, take-take, take-append-le, drop-append-le, drop-drop}
 use Rattle.endian.specs.Le.{put, Bytes, room}
 use Rattle.endian.proofs.Numbers.{num-room}
 use Rattle.endian.proofs.Puts.{length-put}
@@ -89,15 +88,6 @@ pub record_read : (r : Item) (s : List ℕ) (n : ℕ) → n < length (items s) �
 record_read r s n h e = item-decode r _ e ∙ sym (items_at s n nothing (omega (arith, items-length s)))
 
 -- ---- appending
-
-pub added-one : (n : ℕ) (f : Fields) (s s' : List ℕ) → n < length (items s) → items s' ≡ set (items s) n f → Added n (f ∷ []) s (n + 1) s'
-added-one n f s s' h e = record { many = refl; those = rw (add-one, e) (take-suc-set (items s) n f h) }
-
-pub added_if : (t : Bool) (n m : ℕ) (f : Fields) (s s' : List ℕ) → t ≡ true → Added n (f ∷ []) s m s' → Added n (only t f) s m s'
-added_if t n m f s s' e h = rw e h
-
-pub added-unless : (t : Bool) (n : ℕ) (f : Fields) (s : List ℕ) → t ≡ false → Added n (only t f) s n s
-added-unless t n f s e = rw e (record { many = sym (add-zero n); those = sym (append-nil (take n (items s))) })
 
 -- at most one more
 pub added-few : (t : Bool) (n m : ℕ) (f : Fields) (s s' : List ℕ) → Added n (only t f) s m s' → m ≤ n + 1

@@ -72,10 +72,6 @@ every-leading p (f ∷ l) = go (p f) refl (every-leading p l)
     go true e h = both (p f) (every p (take (leading p l) l)) e h
     go false e h = refl
 
--- what a test gives of an item, from what the calls give: l is its length
-pub past-told : (f : Fields) (hi l : ℕ) (t : Bool) → l ≡ f.length → t ≡ ltb hi (f.key + l) → ltb hi (end f) ≡ t
-past-told f hi l t hl ht = sym (ht ∙ ap (λ (x : ℕ). ltb hi (f.key + x)) hl)
-
 -- ---- the cut
 
 module _ (lo hi : ℕ) where
