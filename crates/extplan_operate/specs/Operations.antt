@@ -13,6 +13,7 @@ use Rattle.read_order.specs.Numbers.{numbers}
 use Rattle.read_order.specs.declared.Read.{Read}
 use Rattle.read_order.specs.declared.Request.{Request}
 use Rattle.read_order.specs.declared.Phase.TheVariants as Phases
+use Rattle.read_store.specs.Storing.{Buffers}
 
 abbrev pub range_of : Asked → Range
 range_of a = record { offset = a.from; length = a.length }
@@ -44,15 +45,15 @@ abbrev pub places_in : Numbers → List ℕ → List ℕ
 places_in r places = take r.places places
 
 -- they lie in them
-pub record LieIn (r : Numbers) (is ss ts ps : List ℕ) : Type 0 where
+pub record LieIn (r : Numbers) (b : Buffers) : Type 0 where
   pub few : r.items ≤ r.stored
-  pub items : r.stored * 70 ≤ length is
-  pub shared : r.items ≤ length ss
-  pub table : r.rows * 5 ≤ length ts
-  pub places : r.places ≤ length ps
+  pub items : r.stored * 70 ≤ length b.items
+  pub shared : r.items ≤ length b.shared
+  pub table : r.rows * 5 ≤ length b.table
+  pub places : r.places ≤ length b.places
 
-abbrev pub operation_in : Numbers → (items shared table places : List ℕ) → Rooms → Outcome Plan
-operation_in r items shared table places rooms = operation r (list_in r items) (shared_in r shared) (source_in r items) (table_in r table) (places_in r places) rooms
+abbrev pub operation_in : Numbers → Buffers → Rooms → Outcome Plan
+operation_in r b rooms = operation r (list_in r b.items) (shared_in r b.shared) (source_in r b.items) (table_in r b.table) (places_in r b.places) rooms
 
 -- what was read, with this request
 abbrev pub asking : Read → Request → Numbers

@@ -47,7 +47,7 @@ unfolding flat_map
 alone-same [] = refl
 alone-same (a ∷ l) = ap (λ (m : List ℕ). a ∷ m) (alone-same l)
 
-module _ (s : List ℕ) (short : length s ≤ 65536) (b : Buffers) (r : Numbers) (b' : Buffers) (wide : Roomy b.items b.shared b.table b.places) (z : Stored (read_input s) b r b') where
+module _ (s : List ℕ) (short : length s ≤ 65536) (b : Buffers) (r : Numbers) (b' : Buffers) (wide : Roomy b) (z : Stored (read_input s) b r b') where
   abbrev x : Reading
   x = read_input s
 
@@ -56,7 +56,7 @@ module _ (s : List ℕ) (short : length s ≤ 65536) (b : Buffers) (r : Numbers)
 
   -- ---- where it lies
 
-  lying : LieIn r b'.items b'.shared b'.table b'.places
+  lying : LieIn r b'
   lying =
       rw z.numbers
       (record {
@@ -91,7 +91,7 @@ module _ (s : List ℕ) (short : length s ≤ 65536) (b : Buffers) (r : Numbers)
       ∙ ap (take x.numbers.places) (alone-same x.places)
       ∙ take_all x.numbers.places x.places (omega (arith, k.places)))
 
-  operation_read : (rooms : Rooms) → operation_in r b'.items b'.shared b'.table b'.places rooms ≡ operation_on x rooms
+  operation_read : (rooms : Rooms) → operation_in r b' rooms ≡ operation_on x rooms
   unfolding operation_on
   operation_read rooms = rw (list_read, shared_read, source_read, table_read, places_read) (rw z.numbers refl)
 
@@ -99,12 +99,12 @@ module _ (s : List ℕ) (short : length s ≤ 65536) (b : Buffers) (r : Numbers)
 
   plan-replied :
       (o o' : Outs) (a : Answer) → fault r ≡ 0 → Ample (rooms_of o) → r.volume.generation < 2 ^ 64 → r.file.number < 2 ^ 64
-      → MetWith r.file.number (operation_in r b'.items b'.shared b'.table b'.places (rooms_of o)) a o o'
+      → MetWith r.file.number (operation_in r b' (rooms_of o)) a o o'
       → Replied s (Ok a) o'
   unfolding answer_to
   plan-replied o o' a e m g f t =
       let q : fault x.numbers ≡ 0 = rw (← z.numbers) e in
-      let i : Outcome Plan = operation_in r b'.items b'.shared b'.table b'.places (rooms_of o) in
+      let i : Outcome Plan = operation_in r b' (rooms_of o) in
       record {
         lines =
             rw q
@@ -113,27 +113,27 @@ module _ (s : List ℕ) (short : length s ≤ 65536) (b : Buffers) (r : Numbers)
         holds = met_holds r.file.number i a o o' t;
       }
     where
-      fitting : (rooms : Rooms) (p : Plan) → r.volume.generation < 2 ^ 64 → r.file.number < 2 ^ 64 → operation_in r b'.items b'.shared b'.table b'.places rooms ≡ Outcome.plan p → every edit_fits p.edits ≡ true
+      fitting : (rooms : Rooms) (p : Plan) → r.volume.generation < 2 ^ 64 → r.file.number < 2 ^ 64 → operation_in r b' rooms ≡ Outcome.plan p → every edit_fits p.edits ≡ true
       fitting rooms p g f w = operation_fits r _ _ _ _ _ rooms p g f (rw list_read (bytes-items x.items)) (rw source_read (bytes-items x.source)) w
 
 -- the same of what the code read, with the request in it
-module _ (s : List ℕ) (short : length s ≤ 65536) (b : Buffers) (r : Read) (b' : Buffers) (wide : Roomy b.items b.shared b.table b.places) (z : Stored (read_input s) b (numbers r) b') (q : Request) (e : r.phase ≡ Phases.Request q) where
+module _ (s : List ℕ) (short : length s ≤ 65536) (b : Buffers) (r : Read) (b' : Buffers) (wide : Roomy b) (z : Stored (read_input s) b (numbers r) b') (q : Request) (e : r.phase ≡ Phases.Request q) where
   asked_same : numbers r ≡ asking r q
   asked_same = rw e refl
 
-  pub asked_lying : LieIn (asking r q) b'.items b'.shared b'.table b'.places
+  pub asked_lying : LieIn (asking r q) b'
   asked_lying = rw (← asked_same) (lying s short b (numbers r) b' wide z)
 
   pub asked_replied :
       (o o' : Outs) (a : Answer) → fault (numbers r) ≡ 0 → Ample (rooms_of o)
-      → MetWith r.file.number (operation_in (asking r q) b'.items b'.shared b'.table b'.places (rooms_of o)) a o o'
+      → MetWith r.file.number (operation_in (asking r q) b' (rooms_of o)) a o o'
       → Replied s (Ok a) o'
   asked_replied o o' a f m t =
       let n = narrow s in
       plan-replied s short b (numbers r) b' wide z o o' a f m
       (omega (arith, n.generation, ap (λ (x : Numbers). x.volume.generation) z.numbers))
       (omega (arith, n.number, ap (λ (x : Numbers). x.file.number) z.numbers))
-      (subst (λ (x : Numbers). MetWith r.file.number (operation_in x b'.items b'.shared b'.table b'.places (rooms_of o)) a o o') (sym asked_same) t)
+      (subst (λ (x : Numbers). MetWith r.file.number (operation_in x b' (rooms_of o)) a o o') (sym asked_same) t)
 
 -- ---- a line at fault
 

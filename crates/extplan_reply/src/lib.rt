@@ -2,13 +2,15 @@
 #![tactic(auto)]
 
 ghost use Rattle.std.specs.Prelude.{◌≡◌, ◌≤◌, length};
-ghost use Rattle.plan_def.specs.Outputs.{outs_in};
+ghost use Rattle.plan_def.specs.Outputs.{Kept, outs_in};
 ghost use Rattle.print_answer.specs.Printed.{line_at};
+ghost use Rattle.read_store.specs.Store.{Same, buffers_in};
 ghost use Rattle.extplan_reply.specs.Replies.{answer_to, Replied};
 ghost use Rattle.extplan_reply.specs.Raw.{Roomy, Spacious};
 
 use plan_def::Outputs;
 use print_field::Line;
+use read_store::Store;
 use records::refusal::Refusal;
 use request::Numbers;
 
@@ -16,20 +18,19 @@ use request::Numbers;
 // fault.
 pub fn answer(
     input: &[u8],
-    items: &mut [u8],
-    shared: &mut [u8],
-    table: &mut [u64],
-    places: &mut [u64],
+    store: &mut Store,
     out: &mut Outputs,
 ) -> Result<Result<Option<Numbers>, Refusal>, usize>
     requires input_len_bound { length input.now ≤ 65536 }
-    requires roomy { Roomy items.old shared.old table.old places.old }
+    requires roomy { Roomy (buffers_in store.old) }
     requires spacious { Spacious (outs_in out.old) }
-    ensures { Replied input.now result (outs_in out.new) }
+    ensures replied { Replied input.now result (outs_in out.new) }
+    ensures same { Same store.old store.new }
+    ensures kept { Kept out.old out.new }
 {
-    let read = read_input::read_input(input, items, shared, table, places)?;
+    let read = read_input::read_input(input, store)?;
     let request = read_order::asked(read)?;
-    Ok(extplan_operate::operate(read, request, items, shared, table, places, out))
+    Ok(extplan_operate::operate(read, request, store, out))
 }
 
 // Line n, from 0, of the answer to an input whose reply is in the outputs, in place of what the line was; empty where there are

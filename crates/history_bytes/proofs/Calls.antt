@@ -3,7 +3,6 @@
 use mathlib.Core.Path.{◌≡◌, refl, ap₂, ◌∙◌, sym, subst}
 use mathlib.Core.List.{List, [], ◌∷◌}
 use Prim.Native.Nat.{ℕ, ◌+◌, ◌*◌, ◌/◌}
-use native.Mathlib.Omega.{arith}
 use lib.ListN.{length, take}
 use Rattle.request.specs.declared.Numbers.{Numbers}
 use Rattle.request.specs.Given.{Answer}
@@ -26,8 +25,8 @@ module _ (sector : ℕ) (s : StoredState) (l : Lent) (b : Buffers) where
       let i : z.items ≡ length is = cc m.answer in
       let j : z.rows ≡ length rs = cc m.answer in
       ap₂ (λ (f t : List ℕ). record { files = with_bytes l.number f s.files; table = t }) (ap₂ (λ (n : ℕ) (x : List ℕ). take (n * 70) x) i m.bytes) (ap₂ (λ (n : ℕ) (x : List ℕ). take (n * 5) x) j m.numbers)
-  stored_same (applied is rs) (Err n) list table m = let z : ◌≡◌ {A = ℕ} 0 1 = cc m.answer in absurd (omega arith)
-  stored_same (refusal n) (Ok z) list table m = let z : ◌≡◌ {A = ℕ} 0 1 = cc m.answer in absurd (omega arith)
+  stored_same (applied is rs) (Err n) list table m = absurd (cc m.answer)
+  stored_same (refusal n) (Ok z) list table m = absurd (cc m.answer)
   stored_same (refusal n) (Err k) list table m = refl
 
   -- a plan's lines, found by the answer's counts, are its lines
@@ -51,13 +50,13 @@ called_step sector s c b t h =
   where
     go : (a : Answer) (o : Outcome Plan) (outs : Outs) → said a ≡ told o → outs ≡ left (lent_of c).number o b.outputs → DoneWith sector s (lent_of c) b outs t a → t ≡ step_lent_of sector s c b o
     go (Ok (Some n)) (plan p) outs e q d = done-same sector s (lent_of c) b p n outs t (cc) q d
-    go (Ok (Some n)) nothing outs e q d = let z : ◌≡◌ {A = ℕ} 0 1 = cc in absurd (omega arith)
-    go (Ok (Some n)) (refused m) outs e q d = let z : ◌≡◌ {A = ℕ} 0 1 = cc in absurd (omega arith)
-    go (Ok None) (plan p) outs e q d = let z : ◌≡◌ {A = ℕ} 0 1 = cc in absurd (omega arith)
+    go (Ok (Some n)) nothing outs e q d = absurd (cc)
+    go (Ok (Some n)) (refused m) outs e q d = absurd (cc)
+    go (Ok None) (plan p) outs e q d = absurd (cc)
     go (Ok None) nothing outs e q d = d
-    go (Ok None) (refused m) outs e q d = let z : ◌≡◌ {A = ℕ} 0 1 = cc in absurd (omega arith)
-    go (Err e') (plan p) outs e q d = let z : ◌≡◌ {A = ℕ} 0 1 = cc in absurd (omega arith)
-    go (Err e') nothing outs e q d = let z : ◌≡◌ {A = ℕ} 0 1 = cc in absurd (omega arith)
+    go (Ok None) (refused m) outs e q d = absurd (cc)
+    go (Err e') (plan p) outs e q d = absurd (cc)
+    go (Err e') nothing outs e q d = absurd (cc)
     go (Err e') (refused m) outs e q d = d
 
 -- calls one behind the other are the run

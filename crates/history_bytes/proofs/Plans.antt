@@ -12,7 +12,7 @@ use borrow.Author.Tests.{le-leb}
 use Rattle.records.specs.Records.{chunks, records}
 use Rattle.records.specs.Stages.{first, first_of, every}
 use Rattle.records.proofs.Lists.{every_true}
-use Rattle.item.specs.Items.{Fields, items}
+use Rattle.item.specs.Items.{Fields}
 use Rattle.table.specs.declared.Row.{Row}
 use Rattle.table.specs.Rows.{rows}
 use Rattle.request.specs.Lent.{list_broken, table_broken}

@@ -1,6 +1,6 @@
 -- The calls of demand 3 as a caller of the code makes them: the operation, whose contract is `Met`, and applying, whose contract is
 -- `MetApplying`, with nothing known of either but its contract.
-use Rattle.std.specs.Prelude.{Option, Some, None, Ok, Err, List, [], ◌∷◌, ◌≡◌, ℕ, ◌+◌, ◌*◌, ◌/◌, length, take}
+use Rattle.std.specs.Prelude.{Some, None, Ok, Err, List, [], ◌∷◌, ◌≡◌, ℕ, ◌+◌, ◌*◌, ◌/◌, length, take}
 use Rattle.request.specs.declared.Numbers.{Numbers}
 use Rattle.request.specs.Given.{Answer}
 use Rattle.plan_def.specs.Outputs.{Outs, rooms_of, MetWith}

@@ -1,4 +1,4 @@
-use Rattle.std.proofs.Common.{refl}
+use borrow.Author.Rules.{rules}
 use Rattle.ffi.proofs.Telling.{export_short, export-told}
 use Rattle.ffi.proofs.zag_fallocate.Goals as goal
 
@@ -6,4 +6,4 @@ pub returns-then-answer-lt9 : goal.returns-then-answer-lt9
 returns-then-answer-lt9 c = rw c.number.ensures (export_short _ _ _ _ c.if-answer-lt9.true)
 
 pub returns : goal.returns
-returns c = export-told _ _ _ _ _ _ _ _ _ _ c.if-answer-lt9.false refl refl c.fallocate-a.ensures c.tell.ensures
+returns c = export-told _ _ _ _ _ _ _ _ _ c.if-answer-lt9.false c.fallocate-a.ensures.met c.tell.ensures (search rules)
