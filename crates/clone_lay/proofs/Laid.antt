@@ -6,12 +6,9 @@ use native.Mathlib.Omega.{arith}
 use lib.ListN.{length}
 use Rattle.records.specs.Select.{keep}
 use Rattle.item.specs.Items.{Fields, items}
-use Rattle.lists.proofs.Laws.{well_kept_lem}
 use Rattle.table.specs.declared.Row.{Row}
 use Rattle.cut_def.specs.Cuts.{split}
 use Rattle.cut_def.specs.Refs.{Ref, ref_of}
-use Rattle.cut_segment.specs.Segments.{Runs}
-use Rattle.cut_segment.proofs.Segments.{kept-runs}
 use Rattle.ref_def.specs.Drops.{releases, unrefs}
 use Rattle.plan_def.specs.Outputs.{Outs, ref_numbers, write_numbers}
 use Rattle.plan_lines.specs.Lines.{Laid}
@@ -30,10 +27,6 @@ use Rattle.clone_items.specs.Copies.{clones}
 use Rattle.clone_items.specs.Replacing.{clone_splits, clone_drops, plan_for}
 use Rattle.clone_lay.specs.Raw.{cut_for, Placing}
 use Rattle.clone_lay.proofs.Placed.{splits_plain}
-
--- the file's records run one behind the other
-pub placing_runs : (c : Copying) (before source : List Fields) → Placing c before source → Runs 0 before
-placing_runs c before source p = kept-runs c.number before (well_kept_lem c.number before p.kept) p.ranges
 
 module _ (c : Copying) (k : Cut) (e : k ≡ cut_for c) where
   abbrev kept_splits : List Fields → List Ref
@@ -59,12 +52,12 @@ module _ (c : Copying) (k : Cut) (e : k ≡ cut_for c) where
   drops_all fs bs = rw e (drops-plain (cut_for c).lo (cut_for c).hi fs bs)
 
   pub refs-laid :
-      (fs : List Fields) (bs : List ℕ) (source : List Fields) (rs : List Row) (x y z : ℕ) (s u r s' u' r' : List ℕ)
+      (fs : List Fields) (bs : List ℕ) (source : List Fields) (rs : List Row) (size : ℕ) (x y z : ℕ) (s u r s' u' r' : List ℕ)
       → Laid ref_numbers 2 0 (clone_splits c fs ++ map ref_of (clones c source)) s x s'
       → Laid ref_numbers 2 0 (unrefs rs (drops_in k fs bs)) u y u'
       → Laid ref_numbers 2 0 (releases rs (drops_in k fs bs)) r z r'
-      → RefsLaid (plan_for c fs bs source rs 0) (record { shares = x; unrefs = y; releases = z }) s u r s' u' r'
-  refs-laid fs bs source rs x y z s u r s' u' r' ls lu lr =
+      → RefsLaid (plan_for c fs bs source rs size) (record { shares = x; unrefs = y; releases = z }) s u r s' u' r'
+  refs-laid fs bs source rs size x y z s u r s' u' r' ls lu lr =
       record {
         shares = ls;
         unrefs = laid_same ref_numbers 2 0 (unrefs rs (clone_drops c fs bs)) (unrefs rs (drops_in k fs bs)) u y u' (ap (unrefs rs) (drops_all fs bs)) lu;
@@ -73,14 +66,16 @@ module _ (c : Copying) (k : Cut) (e : k ≡ cut_for c) where
 
 -- with the edits; nothing is written
 pub plan-laid :
-    (c : Copying) (fs : List Fields) (bs : List ℕ) (source : List Fields) (rs : List Row) (n : RefCounts) (e : Edited) (before after : Outs)
-    → RefsLaid (plan_for c fs bs source rs 0) n before.shares before.unrefs before.releases after.shares after.unrefs after.releases
-    → EditsLaid c.number (plan_for c fs bs source rs 0).edits (plan_for c fs bs source rs 0).bytes e before.edits after.edits
+    (c : Copying) (fs : List Fields) (bs : List ℕ) (source : List Fields) (rs : List Row) (size : ℕ) (n : RefCounts) (e : Edited) (before after : Outs)
+    → RefsLaid (plan_for c fs bs source rs size) n before.shares before.unrefs before.releases after.shares after.unrefs after.releases
+    → EditsLaid c.number (plan_for c fs bs source rs size).edits (plan_for c fs bs source rs size).bytes e before.edits after.edits
     → after.writes ≡ before.writes
-    → PlanLaid c.number (plan_for c fs bs source rs 0) (plan_for c fs bs source rs 0).edits (record { refs = n; edits = e; writes = 0 }) before after
-plan-laid c fs bs source rs n e before after lr le w =
+    → after.adds ≡ before.adds
+    → PlanLaid c.number (plan_for c fs bs source rs size) (plan_for c fs bs source rs size).edits (record { refs = n; edits = e; writes = 0 }) before after
+plan-laid c fs bs source rs size n e before after lr le w a =
     record {
       refs = record { shares = lr.shares; unrefs = lr.unrefs; releases = lr.releases };
       edits = le;
       writes = rw w (laid_none write_numbers 4 0 before.writes);
+      adds = a;
     }

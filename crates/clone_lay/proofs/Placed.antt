@@ -29,7 +29,7 @@ use Rattle.cut_def.proofs.Mappings.{items_made}
 use Rattle.cut_splits.specs.Splits.{elsewhere}
 use Rattle.cut_splits.proofs.Shares.{two-extents}
 use Rattle.change_segment.specs.Sides.{middle, bytes_of}
-use Rattle.change_segment.proofs.Edited.{middle-rises, segment_rises, edits-same, bytes_same}
+use Rattle.change_segment.proofs.Edited.{segment_rises, edits-same, bytes_same}
 use Rattle.clone_items.specs.declared.Copying.{Copying}
 use Rattle.clone_items.specs.Copies.{clones}
 use Rattle.clone_items.specs.Replacing.{top, pieces_now}
@@ -75,9 +75,6 @@ module _ (c : Copying) (list source : List ℕ) (h : Placing c (items list) (ite
 
   pub together_made : together copies (segment_of s seg) ≡ map built news
   together_made = insert_all_made copies (segment_of s seg)
-
-  pub old-rises : pairs rises (middle fs s) ≡ true
-  old-rises = middle-rises fs s news c.number h.kept
 
   pub new-rises : pairs rises (items_of (together copies (segment_of s seg))) ≡ true
   new-rises = rw (together_made, items_made news) (segment_rises fs s news c.number kept-placed)

@@ -1,8 +1,7 @@
 -- For the code only: what laying a clone's plan asks, and the cut that it makes.
-use Rattle.std.specs.Prelude.{◌≡◌, Bool, true, ◌&&◌, List, ℕ, ◌<◌, ◌≤◌, leb, ltb, length}
+use Rattle.std.specs.Prelude.{◌≡◌, Bool, true, ◌&&◌, List, ◌<◌, ◌≤◌, leb, ltb, length}
 use Rattle.records.specs.Stages.{every, pairs}
-use Rattle.item.specs.Items.{Fields, items, ranged}
-use Rattle.table.specs.Rows.{rows, table_kept}
+use Rattle.item.specs.Items.{Fields, ranged}
 use Rattle.lists.specs.Lists.{rises}
 use Rattle.lists.proofs.Laws.{Kept}
 use Rattle.cut_def.specs.Pieces.{items_of}
@@ -10,7 +9,6 @@ use Rattle.drop_lines.specs.declared.Cut.{Cut}
 use Rattle.clone_items.specs.declared.Copying.{Copying}
 use Rattle.clone_items.specs.Copies.{clones}
 use Rattle.clone_items.specs.Replacing.{top, pieces_now}
-use Rattle.clone_copies.specs.Walk.{Copyables}
 
 -- the range that is replaced; no extent is written in place
 abbrev pub cut_for : Copying → Cut
@@ -23,7 +21,6 @@ starts_inside c f = leb c.to f.key && ltb f.key (top c)
 -- what the lists of a clone that passed its checks are
 pub record Placing (c : Copying) (before source : List Fields) : Type 0 where
   pub some : 0 < c.span
-  pub copies : Copyables c source
   pub rise : pairs rises (clones c source) ≡ true
   pub inside : every (starts_inside c) (clones c source) ≡ true
   pub kept : Kept c.number before
@@ -32,9 +29,3 @@ pub record Placing (c : Copying) (before source : List Fields) : Type 0 where
   pub «ranges-now» : every ranged (items_of (pieces_now c before source)) ≡ true
   pub sized : length before ≤ 65536
   pub «source-sized» : length source ≤ 65536
-
--- and with the shared bytes and the table
-pub record Replacing (c : Copying) (list bytes source table : List ℕ) : Type 0 where
-  pub lists : Placing c (items list) (items source)
-  pub shares : length bytes ≡ length (items list)
-  pub extents : table_kept (rows table) ≡ true
