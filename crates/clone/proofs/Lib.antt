@@ -1,5 +1,3 @@
-pub mod Refusing
-pub mod Asking
 pub mod Operating
+pub mod Passing
 pub mod Finishing
-pub mod Drafting

@@ -1,28 +1,13 @@
-use Rattle.clone.specs.Raw.{copying_of, answered}
-use mathlib.Core.List.{[]}
-use mathlib.Core.Path.{◌∙◌, ap, sym}
-use Rattle.plan_def.specs.Outputs.{outs}
-use Prim.Native.Nat.{ℕ}
-use Rattle.std.specs.Prelude.{Option, Ok}
-use Rattle.request.specs.declared.Numbers.{Numbers}
-use Rattle.request.specs.Answers.{refused}
-use Rattle.clone.proofs.Finishing.{chosen_now, range-refused, range-nothing, range-ends, range_replacing, range-numbers, range-finished}
+use Rattle.std.proofs.Common.{◌≡◌, Err, rules}
+use Rattle.plan_def.specs.Outputs.{outs_in}
+use Rattle.clone.proofs.Finishing.{range_refused, range_nothing, range_planned}
 use Rattle.clone.proofs.clone_range.Goals as goal
 
-pub draft_clone-requires : goal.draft_clone-requires
-draft_clone-requires c = let a = c.args in chosen_now a.v a.dst a.src a.own a.s a.list.now a.shared.now a.source.now a.table.now (outs a.edits.now a.shares.now a.unrefs.now a.releases.now [] []) c.source_file-file.result _ c.source_file-file.ensures c.source_list-from.ensures
+pub returns-in_err-ground-clause-met : goal.returns-in_err-ground-clause-met
+returns-in_err-ground-clause-met c = let e = c.in_err-ground in let r : c.from_residual.result ≡ Err e.field-0.0 = search rules in rw r (range_refused c.args.l c.args.src c.args.own c.args.source.now c.args.s c.new.result c.new.ensures (outs_in c.args.out.now) _ e.ensures)
 
-pub copying_of-requires : goal.copying_of-requires
-copying_of-requires c = let a = c.args in let r = range-ends a.v a.dst a.src a.own a.s a.list.now a.shared.now a.source.now a.table.now (outs a.edits.now a.shares.now a.unrefs.now a.releases.now [] []) c.source_file-file.result _ c.source_file-file.ensures c.source_list-from.ensures c.in-Some.n (ap (λ (x : Option Numbers). answered (Ok x)) (sym c.in-Some.is) ∙ c.in-Ok.ensures) in (r.0, rw c.meant.ensures r.1)
+pub returns-in_default-clause-met : goal.returns-in_default-clause-met
+returns-in_default-clause-met c = range_nothing c.args.l c.args.src c.args.own c.args.source.now c.args.s c.new.result c.new.ensures (outs_in c.args.out.now) (rw c.in_default.is at c.in_ok-ground.ensures)
 
-pub finish_clone-requires : goal.finish_clone-requires
-finish_clone-requires c = let a = c.args in let e = c.copying_of.ensures ∙ ap (copying_of a.v.sector a.dst.number) c.meant.ensures in (range_replacing a.v a.dst a.src a.own a.s a.list.now a.shared.now a.source.now a.table.now (outs a.edits.now a.shares.now a.unrefs.now a.releases.now [] []) c.source_file-file.result _ c.source_file-file.ensures c.source_list-from.ensures c.in-Some.n (ap (λ (x : Option Numbers). answered (Ok x)) (sym c.in-Some.is) ∙ c.in-Ok.ensures) _ e, range-numbers a.v a.dst a.src a.own a.s a.list.now a.shared.now a.source.now a.table.now (outs a.edits.now a.shares.now a.unrefs.now a.releases.now [] []) c.source_file-file.result _ c.source_file-file.ensures c.source_list-from.ensures c.in-Some.n (ap (λ (x : Option Numbers). answered (Ok x)) (sym c.in-Some.is) ∙ c.in-Ok.ensures) _ e)
-
-pub returns-in-Err : goal.returns-in-Err
-returns-in-Err c = let a = c.args in range-refused a.v a.dst a.src a.own a.s a.list.now a.shared.now a.source.now a.table.now (outs a.edits.now a.shares.now a.unrefs.now a.releases.now [] []) c.source_file-file.result _ c.source_file-file.ensures c.source_list-from.ensures _ (ap (λ (n : ℕ). refused n) c.number.ensures ∙ c.in-Err.ensures)
-
-pub returns-in_default : goal.returns-in_default
-returns-in_default c = let a = c.args in range-nothing a.v a.dst a.src a.own a.s a.list.now a.shared.now a.source.now a.table.now (outs a.edits.now a.shares.now a.unrefs.now a.releases.now [] []) c.source_file-file.result _ c.source_file-file.ensures c.source_list-from.ensures (ap (λ (x : Option Numbers). answered (Ok x)) (sym c.in_default.is) ∙ c.in-Ok.ensures)
-
-pub returns : goal.returns
-returns c = let a = c.args in let e = c.copying_of.ensures ∙ ap (copying_of a.v.sector a.dst.number) c.meant.ensures in range-finished a.v a.dst a.src a.own a.s a.list.now a.shared.now a.source.now a.table.now (outs a.edits.now a.shares.now a.unrefs.now a.releases.now [] []) c.source_file-file.result _ c.source_file-file.ensures c.source_list-from.ensures c.in-Some.n (ap (λ (x : Option Numbers). answered (Ok x)) (sym c.in-Some.is) ∙ c.in-Ok.ensures) _ e c.finish_clone.result _ c.finish_clone.ensures
+pub returns-clause-met : goal.returns-clause-met
+returns-clause-met c = range_planned c.args.l c.args.src c.args.own c.args.source.now c.args.s c.new.result c.new.ensures (outs_in c.args.out.now) c.in-Some.ground (rw c.in-Some.is at c.in_ok-ground.ensures) c.finish_clone.result _ c.finish_clone.ensures.met

@@ -1,14 +1,11 @@
-use Rattle.std.proofs.Common.{◌∙◌}
-use mathlib.Core.List.{[]}
-use mathlib.Core.Path.{refl}
-use Rattle.item.specs.Items.{items}
-use Rattle.table.specs.Rows.{rows}
-use Rattle.plan_def.specs.Outputs.{outs}
+use Rattle.std.proofs.Common.{◌≡◌, Err, sym, rules}
+use Rattle.plan_def.specs.Outputs.{outs_in}
+use Rattle.clone_lay.specs.Lent.{plan_in}
 use Rattle.clone.proofs.Finishing.{finish_refused, finish_planned}
 use Rattle.clone.proofs.finish_clone.Goals as goal
 
-pub returns-then-short-ne0 : goal.returns-then-short-ne0
-returns-then-short-ne0 c = let a = c.args in let p = c.requires in finish_refused a.c (items a.list.now) a.shared.now (items a.source.now) (rows a.table.now) a.n (outs a.edits.now a.shares.now a.unrefs.now a.releases.now [] []) _ p.1 (λ p e. c.number_of-short.ensures ∙ c.room_refusal.ensures p e) c.if-short-ne0.true
+pub returns-in_err-room_refusal-clause-met : goal.returns-in_err-room_refusal-clause-met
+returns-in_err-room_refusal-clause-met c = let e = c.in_err-room_refusal in let r : c.from_residual.result ≡ Err e.field-0.0 = search rules in rw r (finish_refused c.args.g (outs_in c.args.out.now) _ (e.ensures (plan_in c.args.g) (sym c.count_clone-n.ensures)))
 
-pub returns : goal.returns
-returns c = let a = c.args in let p = c.requires in finish_planned a.c (items a.list.now) a.shared.now (items a.source.now) (rows a.table.now) a.n (outs a.edits.now a.shares.now a.unrefs.now a.releases.now [] []) _ p.1 (λ p e. c.number_of-short.ensures ∙ c.room_refusal.ensures p e) c.lay_clone.result _ c.if-short-ne0.false refl c.lay_clone.ensures
+pub returns-clause-met : goal.returns-clause-met
+returns-clause-met c = finish_planned c.args.g (outs_in c.args.out.now) _ c.lay.result _ c.count_clone-n.ensures (c.in_ok-room_refusal.ensures (plan_in c.args.g) (sym c.count_clone-n.ensures)) c.lay.ensures.laid
