@@ -43,9 +43,11 @@ use Rattle.change_def.proofs.Filled.{bare_fair, bare_refusal, holes-below}
 use Rattle.change_holes.specs.declared.Sums.{Sums}
 use Rattle.change_holes.specs.declared.NewExtents.{NewExtents}
 use Rattle.change_holes.specs.declared.Bounds.{Bounds}
-use Rattle.change_holes.specs.Walk.{Ends, wishes}
-use Rattle.change_holes.proofs.Pieces.{pieces-few}
-use Rattle.change_rewrites.specs.Raw.{lent_ground}
+use Rattle.change_holes.specs.Walk.{wishes}
+use Rattle.change_holes.proofs.Pieces.{pieces_few}
+use Rattle.change_ground.specs.declared.Ground.{Ground as Lent}
+use Rattle.change_ground.specs.Lent.{ground, items_in}
+use Rattle.change_segment.specs.declared.Places.{Places}
 use Rattle.change_segment.specs.declared.Parts.{Parts}
 use Rattle.change_segment.specs.Raw.{Parting}
 use Rattle.change_segment.specs.Sides.{front_new, back_new, sides, wanted_at, one_if, anew_count, places_at}
@@ -53,9 +55,11 @@ use Rattle.change_segment.proofs.Sides.{ways, wanted-sides, sides-few, sides-cou
 use Rattle.change_segment.proofs.Puts.{anew_of}
 use Rattle.change_lay.specs.declared.Counts.{Counts}
 use Rattle.change_lay.proofs.Laying.{ready_now}
-use Rattle.change_lay.specs.Laid.{Started, Pieced, plan_at, edits_at, PlanLaid}
+use Rattle.change_lay.specs.declared.Begun.{Begun}
+use Rattle.change_lay.specs.Laid.{Pieced, ground_of, change_in, plan_at, edits_at, PlanLaid}
 use Rattle.change_draft.specs.declared.Needs.{Needs}
-use Rattle.change_draft.specs.Raw.{draft_said, side_of, extents_of, counts_of, numbers_of, Asked}
+use Rattle.change_draft.specs.declared.asked.Asked.{Asked}
+use Rattle.change_draft.specs.Raw.{draft_said, extents_of, counts_of, numbers_of, whole}
 use Rattle.change_draft.proofs.Filled.{pieces-count, holes_sum, sectors_now, wishes_now, bytes_fit_now, numbers_now}
 
 -- ---- the first half's two ways
@@ -93,15 +97,40 @@ sides-ones (Some x) None = refl
 sides-ones None (Some y) = refl
 sides-ones None None = refl
 
-module _ (v : Volume) (f : File) (c : RangeChange) (w : Fill) (p : Parts) (list shared table : List ℕ) where
+-- the change that is asked for is fair without its holes
+pub base_fair : (g : Lent) (c : RangeChange) (w : Fill) → Fair (ground g) (filled_of c w (items_in g)) → Fair (ground g) (change_of c g.file.size)
+base_fair g c w a = bare_fair g.file.size (ground g) (filled_of c w (items_in g)) a
+
+module _ (a : Asked) where
+  abbrev c : RangeChange
+  c = a.begun.range
+
+  abbrev p : Parts
+  p = a.begun.parts
+
+  abbrev w : Fill
+  w = a.fill
+
+  abbrev v : Volume
+  v = a.begun.base.volume
+
+  abbrev size : ℕ
+  size = a.begun.base.file.size
+
+  abbrev fs : List Fields
+  fs = items_in a.begun.base
+
+  abbrev shared : List ℕ
+  shared = a.begun.base.leaves.shared.now
+
   abbrev g : Ground
-  g = lent_ground v f list shared table
+  g = ground_of a.begun
 
   abbrev d : Change
-  d = filled_of c w (items list)
+  d = whole a
 
   abbrev base : Change
-  base = change_of c f.size
+  base = change_in a.begun
 
   -- how many sectors take new extents
   abbrev anew : ℕ
@@ -115,26 +144,14 @@ module _ (v : Volume) (f : File) (c : RangeChange) (w : Fill) (p : Parts) (list 
       (eqb-false _ _ (whenever-zero (eqb g.generation (2 ^ 64 - 1)) 13 t.0 (λ e. omega arith)), t.1.1.0)
 
   pub refusal-same : (why : ℕ) → why ≡ change_refusal g base → why ≡ change_refusal g d
-  refusal-same why e = e ∙ bare_refusal f.size g d
+  refusal-same why e = e ∙ bare_refusal size g d
 
   -- it can start
-  pub base_fair : Fair g d → Fair g base
-  base_fair a = bare_fair f.size g d a
-
-  pub started : (a : Asked v f c w list shared table) (part : Parting (in_leaves (items list) shared) c p) → v.generation < 2 ^ 64 → change_refusal g d ≡ 0 → Started v f c p list shared table
-  started a part fits z =
-      let q = (passed z).0 in
-      record { fair = base_fair a.fair; part = part; shares = a.shares; sized = a.sized; generation = omega (arith, q) }
-
-  -- every item ends below 2^63
-  pub ends_now : Fair g d → length shared ≡ length (items list) → Ends (items list)
-  ends_now fair n =
-      let sound : Fields → Bool = λ f. item_sound g.file f && ranged f in
-      let e : items_before g d ≡ items list = leaves-items (items list) shared n in
-      rw e at
-      (every_map sound (λ (f : Fields). leb (end f) (2 ^ 63))
-      (λ f h. le-leb _ _ (item-ranged g.file f (both_left (item_sound g.file f) (ranged f) h) (both_right (item_sound g.file f) (ranged f) h)).ends)
-      (items_before g d) (every_both (item_sound g.file) ranged (items_before g d) fair.sound.kept.sound fair.sound.ranges))
+  pub can_start : change_refusal g base ≡ 0 → v.generation < 2 ^ 64 → (v.generation + 1 < 2 ^ 64) × (stage (rewrite_refusal g) base.rewrites ≡ 0)
+  can_start z fits =
+      let q = passed (sym (refusal-same 0 (sym z))) in
+      let n = q.0 in
+      (omega (arith, n), q.1)
 
   -- ---- the first half
 
@@ -153,93 +170,91 @@ module _ (v : Volume) (f : File) (c : RangeChange) (w : Fill) (p : Parts) (list 
       let k = was_refused _ (change_refusal g d) why h in
       refuse_first (change_refusal g d) _ _ (plan_of g d piece_limit ps) k.1 ∙ ap refused (sym k.0)
 
-  pub planned-told : (n : Needs) → draft_said (items list) (Ok n) ≡ drafted g d piece_limit → change_refusal g d ≡ 0
+  pub planned-told : (n : Needs) → draft_said fs (Ok n) ≡ drafted g d piece_limit → change_refusal g d ≡ 0
   unfolding drafted
   planned-told n h = was_planned _ _ (change_refusal g d) h
 
-  module _ (part : Parting (in_leaves (items list) shared) c p) where
-    pub sectors_many : anew ≡ length (sectors_wanted g d piece_limit)
-    sectors_many = sides-count (front_new c p) (back_new c p) (wanted_at g) (wanted_at g) ∙ ap length (sym (sectors_now g c w (items list) p part))
+  pub sectors_many : anew ≡ length (sectors_wanted g d piece_limit)
+  sectors_many = sides-count (front_new c p) (back_new c p) (wanted_at g) (wanted_at g) ∙ ap length (sym (sectors_now g c w fs p a.begun.parting))
 
-    -- each place counts as 1
-    abbrev ones : List ℕ
-    ones = places_at c p 1 1
+  -- each place counts as 1
+  abbrev ones : List ℕ
+  ones = places_at c p 1 1
 
-    ones-count : anew ≡ length ones
-    ones-count = sides-count (front_new c p) (back_new c p) (λ (r : Rewrite). 1) (λ (r : Rewrite). 1)
+  ones-count : anew ≡ length ones
+  ones-count = sides-count (front_new c p) (back_new c p) (λ (r : Rewrite). 1) (λ (r : Rewrite). 1)
 
-    abbrev others : List ℕ
-    others = replicate (length (pieces_wanted g d piece_limit)) 1
+  abbrev others : List ℕ
+  others = replicate (length (pieces_wanted g d piece_limit)) 1
 
-    ones-many : length ones ≡ length (sectors_wanted g d piece_limit)
-    ones-many = sym ones-count ∙ sectors_many
+  ones-many : length ones ≡ length (sectors_wanted g d piece_limit)
+  ones-many = sym ones-count ∙ sectors_many
 
-    ones_all : ones ++ others ≡ replicate (length (wanted g d piece_limit)) 1
-    ones_all =
-        let e : anew + length (pieces_wanted g d piece_limit) ≡ length (wanted g d piece_limit) = omega (arith, sectors_many, length-append (sectors_wanted g d piece_limit) (pieces_wanted g d piece_limit)) in
-        ap (λ (l : List ℕ). l ++ others) (sides-ones (front_new c p) (back_new c p))
-        ∙ replicate-append-replicate anew (length (pieces_wanted g d piece_limit)) 1
-        ∙ ap (λ (n : ℕ). replicate n 1) e
+  ones_all : ones ++ others ≡ replicate (length (wanted g d piece_limit)) 1
+  ones_all =
+      let e : anew + length (pieces_wanted g d piece_limit) ≡ length (wanted g d piece_limit) = omega (arith, sectors_many, length-append (sectors_wanted g d piece_limit) (pieces_wanted g d piece_limit)) in
+      ap (λ (l : List ℕ). l ++ others) (sides-ones (front_new c p) (back_new c p))
+      ∙ replicate-append-replicate anew (length (pieces_wanted g d piece_limit)) 1
+      ∙ ap (λ (n : ℕ). replicate n 1) e
 
-    module _ (fair : Fair g d) where
-      -- the sums that are taken
-      pub holes_fit : sum_of (sweep c.lo c.hi w.from w.to (items list)) ≤ 2 ^ 63
-      holes_fit = rw (holes_sum g c w (items list)) at (holes-below g d fair)
+  -- the sums that are taken
+  pub holes_fit : sum_of (sweep c.lo c.hi w.from w.to fs) ≤ 2 ^ 63
+  holes_fit = rw (holes_sum g c w fs) at (holes-below g d a.fair)
 
-      module _ (n : Counts) (pn : n ≡ counts_of (plan_at v f c p list shared table 1 1)) (s : Sums)
-          (pb : s.bytes ≡ sum_of (sweep c.lo c.hi w.from w.to (items list)))
-          (pp : s.pieces ≡ length (flat_map (prealloc_pieces piece_limit) (sweep c.lo c.hi w.from w.to (items list)))) where
-        bytes_are : s.bytes ≡ sum_of d.holes
-        bytes_are = pb ∙ sym (holes_sum g c w (items list))
+  module _ (n : Counts) (pn : n ≡ counts_of (plan_at a.begun (record { front = 1; back = 1 }))) (s : Sums)
+      (pb : s.bytes ≡ sum_of (sweep c.lo c.hi w.from w.to fs))
+      (pp : s.pieces ≡ length (flat_map (prealloc_pieces piece_limit) (sweep c.lo c.hi w.from w.to fs))) where
+    bytes_are : s.bytes ≡ sum_of d.holes
+    bytes_are = pb ∙ sym (holes_sum g c w fs)
 
-        pieces_are : s.pieces ≡ length (pieces_wanted g d piece_limit)
-        pieces_are = pp ∙ sym (pieces-count g c w (items list))
+    pieces_are : s.pieces ≡ length (pieces_wanted g d piece_limit)
+    pieces_are = pp ∙ sym (pieces-count g c w fs)
 
-        -- its numbers are those of the plan
-        numbers_are : numbers_of n anew s w.size ≡ numbers (plan_of g d piece_limit (replicate (length (wanted g d piece_limit)) 1))
-        numbers_are =
-            (λ i. numbers_of (pn i) (ones-count i) (record { bytes = bytes_are i; pieces = pieces_are i }) w.size)
-            ∙ sym (numbers_now f.size g d fair ones others ones-many (length-replicate (length (pieces_wanted g d piece_limit)) 1) (ones-some (length (pieces_wanted g d piece_limit))))
-            ∙ ap (λ (l : List ℕ). numbers (plan_of g d piece_limit l)) ones_all
+    -- its numbers are those of the plan
+    numbers_are : numbers_of n anew s w.size ≡ numbers (plan_of g d piece_limit (replicate (length (wanted g d piece_limit)) 1))
+    numbers_are =
+        (λ i. numbers_of (pn i) (ones-count i) (record { bytes = bytes_are i; pieces = pieces_are i }) w.size)
+        ∙ sym (numbers_now size g d a.fair ones others ones-many (length-replicate (length (pieces_wanted g d piece_limit)) 1) (ones-some (length (pieces_wanted g d piece_limit))))
+        ∙ ap (λ (l : List ℕ). numbers (plan_of g d piece_limit l)) ones_all
 
-        pub draft_planned : sector_sound v.sector ≡ true → change_refusal g d ≡ 0 → (m : Numbers) (e : NewExtents) (k : ℕ) → k ≡ anew → m ≡ numbers_of n k s w.size → e ≡ extents_of v c w p
-            → draft_said (items list) (Ok (record { numbers = m; extents = e })) ≡ drafted g d piece_limit
-        draft_planned ok z m e k pk pm pe =
-            ap₂ {C = Outcome Drafted} (λ (m : Numbers) (l : List Stretch). plan (record { numbers = m; extents = l }))
-            (pm ∙ ap (λ (k : ℕ). numbers_of n k s w.size) pk ∙ numbers_are)
-            (ap (λ (e : NewExtents). wishes e (items list)) pe ∙ wishes_now g c w (items list) p part v ok refl)
-            ∙ draft_passed z
+    pub draft_planned : change_refusal g d ≡ 0 → (m : Numbers) (e : NewExtents) (k : ℕ) → k ≡ anew → m ≡ numbers_of n k s w.size → e ≡ extents_of v c w p
+        → draft_said fs (Ok (record { numbers = m; extents = e })) ≡ drafted g d piece_limit
+    draft_planned z m e k pk pm pe =
+        ap₂ {C = Outcome Drafted} (λ (m : Numbers) (l : List Stretch). plan (record { numbers = m; extents = l }))
+        (pm ∙ ap (λ (k : ℕ). numbers_of n k s w.size) pk ∙ numbers_are)
+        (ap (λ (e : NewExtents). wishes e fs) pe ∙ wishes_now g c w fs p a.begun.parting v a.fair.sound.sector refl)
+        ∙ draft_passed z
 
-        -- and fit 64 bits
-        pub numbers_fit : length (items list) ≤ 65536 → length shared ≡ length (items list) → (k : ℕ) → k ≡ anew
-            → (n.edits.edits + s.pieces < 2 ^ 64) × (k + s.pieces < 2 ^ 64) × (n.edits.bytes + s.bytes < 2 ^ 64)
-        numbers_fit sized shares k pk =
-            let most = numbers-most g base piece_limit ones fair.sound.table in
-            let few = pieces-few (sweep c.lo c.hi w.from w.to (items list)) in
-            let e1 : n.edits.edits ≡ (numbers (plan_of g base piece_limit ones)).edits = ap (λ (n : Counts). n.edits.edits) pn in
-            let e2 : n.edits.bytes ≡ (numbers (plan_of g base piece_limit ones)).bytes = ap (λ (n : Counts). n.edits.bytes) pn in
-            let h : length (items_before g base) ≡ length (items list) = ap length (leaves-items (items list) shared shares) in
-            let r : length base.rewrites ≤ 2 = rewrites-few c in
-            let x : length (wanted g base piece_limit) ≤ 2 = rw (wanted-sides g c f.size p part piece_limit) (sides-few (front_new c p) (back_new c p) (wanted_at g) (wanted_at g)) in
-            let a : anew ≤ 2 = anew-most c p in
-            let b = bytes_fit_now f.size g d fair ones others ones-many (length-replicate (length (pieces_wanted g d piece_limit)) 1) (ones-some (length (pieces_wanted g d piece_limit))) in
-            let fit = holes_fit in
-            let ed = most.edits in
-            (omega (arith, e1, ed, h, r, x, sized, pp, few, fit), omega (arith, pk, a, pp, few, fit), omega (arith, e2, b, bytes_are))
+    -- and fit 64 bits
+    pub numbers_fit : (k : ℕ) → k ≡ anew
+        → (n.edits.edits + s.pieces < 2 ^ 64) × (k + s.pieces < 2 ^ 64) × (n.edits.bytes + s.bytes < 2 ^ 64)
+    numbers_fit k pk =
+        let most = numbers-most g base piece_limit ones a.fair.sound.table in
+        let few = pieces_few (sweep c.lo c.hi w.from w.to fs) in
+        let e1 : n.edits.edits ≡ (numbers (plan_of g base piece_limit ones)).edits = ap (λ (n : Counts). n.edits.edits) pn in
+        let e2 : n.edits.bytes ≡ (numbers (plan_of g base piece_limit ones)).bytes = ap (λ (n : Counts). n.edits.bytes) pn in
+        let h : length (items_before g base) ≡ length fs = ap length (leaves-items fs shared a.begun.base.leaves.one_each) in
+        let r : length base.rewrites ≤ 2 = rewrites-few c in
+        let x : length (wanted g base piece_limit) ≤ 2 = rw (wanted-sides g c size p a.begun.parting piece_limit) (sides-few (front_new c p) (back_new c p) (wanted_at g) (wanted_at g)) in
+        let two : anew ≤ 2 = anew-most c p in
+        let b = bytes_fit_now size g d a.fair ones others ones-many (length-replicate (length (pieces_wanted g d piece_limit)) 1) (ones-some (length (pieces_wanted g d piece_limit))) in
+        let fit = holes_fit in
+        let ed = most.edits in
+        (omega (arith, e1, ed, h, r, x, a.sized, pp, few, fit), omega (arith, pk, two, pp, few, fit), omega (arith, e2, b, bytes_are))
 
 -- ---- in the terms of the calls
 
-module _ (v : Volume) (f : File) (c : RangeChange) (p : Parts) (list shared table : List ℕ) where
-  -- a plan without pieces
-  pub none_pieced : (after : List Fields) (file generation : ℕ) → Pieced (items list) after (piece_items file generation [])
-  unfolding records chunks every pairs
-  none_pieced after file generation = record { rise = refl; olds = refl; news = refl }
+-- a plan without pieces
+pub none_pieced : (before after : List Fields) (file generation : ℕ) → Pieced before after (piece_items file generation [])
+unfolding records chunks every pairs
+none_pieced before after file generation = record { rise = refl; olds = refl; news = refl }
 
+module _ (b : Begun) where
   pub none-counted :
-      (n : Counts) (x y : ℕ) (before after : Outs) → PlanLaid f.number (plan_at v f c p list shared table x y) (edits_at v f c p list shared table x y []) n before after
-      → n ≡ counts_of (plan_at v f c p list shared table x y)
+      (n : Counts) (at : Places) (before after : Outs) → PlanLaid b.base.file.number (plan_at b at) (edits_at b at []) n before after
+      → n ≡ counts_of (plan_at b at)
   unfolding records chunks insert_all
-  none-counted n x y before after l =
+  none-counted n at before after l =
       let e1 = l.edits.edits.lines ∙ zero-add _ in
       let e2 = l.refs.shares.lines ∙ zero-add _ in
       let e3 = l.refs.unrefs.lines ∙ zero-add _ in
@@ -249,9 +264,10 @@ module _ (v : Volume) (f : File) (c : RangeChange) (p : Parts) (list shared tabl
       λ i. record { refs = record { shares = e2 i; unrefs = e3 i; releases = e4 i }; edits = record { edits = e1 i; bytes = e6 i }; writes = e5 i }
 
   -- a sector that takes a new extent ends within 64 bits
-  pub sides_fit : Started v f c p list shared table → ForSome (front_new c p) (λ (r : Rewrite). r.sector + v.sector < 2 ^ 64) × ForSome (back_new c p) (λ (r : Rewrite). r.sector + v.sector < 2 ^ 64)
-  sides_fit st =
-      let r = ready_now v f c p list shared table st in (
-        (λ x e. let i = r.«new-front» x (anew_of c.front p.front x e) in omega (arith, i.high, i.limit)),
-        (λ x e. let i = r.«new-back» x (anew_of c.back p.back x e) in omega (arith, i.high, i.limit)),
+  pub sides_fit : b.base.volume.generation + 1 < 2 ^ 64
+      → ForSome (front_new b.range b.parts) (λ (r : Rewrite). r.sector + b.base.volume.sector < 2 ^ 64) × ForSome (back_new b.range b.parts) (λ (r : Rewrite). r.sector + b.base.volume.sector < 2 ^ 64)
+  sides_fit n =
+      let r = ready_now b n in (
+        (λ x e. let i = r.inside.«new-front» x (anew_of b.range.front b.parts.front x e) in omega (arith, i.high, i.limit)),
+        (λ x e. let i = r.inside.«new-back» x (anew_of b.range.back b.parts.back x e) in omega (arith, i.high, i.limit)),
       )

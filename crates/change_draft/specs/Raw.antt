@@ -4,25 +4,24 @@ use Rattle.records.specs.declared.refusal.Refusal.{Refusal}
 use Rattle.records.specs.Refusals.{number}
 use Rattle.item.specs.Items.{Fields, items}
 use Rattle.request.specs.declared.Volume.{Volume}
-use Rattle.request.specs.declared.File.{File}
 use Rattle.request.specs.declared.Numbers.{Numbers}
 use Rattle.request.specs.Answers.{Outcome, plan, refused}
 use Rattle.plan_def.specs.Plans.{Plan}
 use Rattle.change_def.specs.declared.Rewrite.{Rewrite}
 use Rattle.change_def.specs.declared.RangeChange.{RangeChange}
 use Rattle.change_def.specs.declared.Fill.{Fill}
+use Rattle.change_def.specs.Changes.{Change}
 use Rattle.change_def.specs.Drafts.{Drafted}
-use Rattle.change_def.specs.Sweep.{filled_of}
-use Rattle.change_def.proofs.Fair.{Fair}
 use Rattle.change_holes.specs.declared.Bounds.{Bounds}
 use Rattle.change_holes.specs.declared.NewExtents.{NewExtents}
 use Rattle.change_holes.specs.declared.Sums.{Sums}
 use Rattle.change_holes.specs.Walk.{wishes}
-use Rattle.change_rewrites.specs.Raw.{lent_ground}
 use Rattle.change_segment.specs.declared.Parts.{Parts}
 use Rattle.change_segment.specs.Sides.{front_new, back_new}
 use Rattle.change_lay.specs.declared.Counts.{Counts}
+use Rattle.change_draft.specs.declared.asked.Asked.{Asked}
 use Rattle.change_draft.specs.declared.Needs.{Needs}
+use Rattle.change_draft.specs.Whole.{filled}
 
 -- a draft, of a file with these items: what a plan needs, or the number of its refusal
 abbrev pub draft_said : List Fields → Result Needs Refusal → Outcome Drafted
@@ -70,8 +69,6 @@ numbers_of n sectors s size =
       prealloc = ltb 0 s.pieces;
     }
 
--- a change of a file that passed its checks
-pub record Asked (v : Volume) (f : File) (c : RangeChange) (w : Fill) (list bytes table : List ℕ) : Type 0 where
-  pub fair : Fair (lent_ground v f list bytes table) (filled_of c w (items list))
-  pub shares : length bytes ≡ length (items list)
-  pub sized : length (items list) ≤ 65536
+-- an asked change with its holes
+abbrev pub whole : Asked → Change
+whole a = filled a.begun a.fill

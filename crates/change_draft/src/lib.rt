@@ -1,28 +1,25 @@
 // The first half of `change_range`: what refuses a change, or what its plan needs, with no place taken.
 #![tactic(auto)]
 
+pub mod asked;
+
 ghost use Rattle.std.specs.Prelude.{◌≡◌, ◌+◌, ◌<◌, ◌^◌};
 ghost use Rattle.std.specs.Option.{ForSome};
-ghost use Rattle.records.specs.Stages.{stage};
-ghost use Rattle.item.specs.Items.{items};
-ghost use Rattle.ref_def.specs.Drops.{in_leaves};
 ghost use Rattle.change_def.specs.Preallocs.{piece_limit};
-ghost use Rattle.change_def.specs.Rewrites.{rewrite_refusal};
 ghost use Rattle.change_def.specs.Drafts.{drafted};
-ghost use Rattle.change_def.specs.Raw.{change_of};
-ghost use Rattle.change_def.specs.Sweep.{filled_of};
-ghost use Rattle.change_rewrites.specs.Raw.{lent_ground};
-ghost use Rattle.change_segment.specs.Raw.{Parting};
+ghost use Rattle.change_ground.specs.Lent.{items_in};
 ghost use Rattle.change_segment.specs.Sides.{front_new, back_new, anew_count};
-ghost use Rattle.change_lay.specs.Laid.{Started, plan_at};
-ghost use Rattle.change_draft.specs.Raw.{draft_said, side_of, extents_of, counts_of, numbers_of, Asked};
+ghost use Rattle.change_lay.specs.Laid.{ground_of, plan_at};
+ghost use Rattle.change_draft.specs.Raw.{draft_said, side_of, extents_of, counts_of, numbers_of, whole};
 
+pub use asked::Asked;
 use change_def::{Fill, RangeChange, Rewrite};
 use change_holes::{Bounds, NewExtents, Sums};
-use change_lay::Counts;
-use change_segment::Parts;
+use change_lay::{Counts, Started};
+use change_segment::{Parts, Places};
+use plan_def::Outputs;
 use records::refusal::Refusal;
-use request::{File, Numbers, Volume};
+use request::{Numbers, Volume};
 
 // What a plan needs: how many records in each output, and new extents.
 #[derive(Clone, Copy)]
@@ -31,42 +28,19 @@ pub struct Needs {
     pub extents: NewExtents,
 }
 
-// The numbers of a plan that fills no hole, with no place taken.
-fn count_plan(
-    v: Volume,
-    f: File,
-    c: RangeChange,
-    p: Parts,
-    list: &[u8],
-    shared: &[u8],
-    table: &[u64],
-) -> Counts
-    requires { Started v f c p list.now shared.now table.now × (stage (rewrite_refusal (lent_ground v f list.now shared.now table.now)) (change_of c f.size).rewrites ≡ 0) }
-    ensures { result ≡ counts_of (plan_at v f c p list.now shared.now table.now 1 1) }
+// The numbers of a plan that fills no hole, with no place taken: it is laid over outputs of no length.
+fn count_plan(s: Started) -> Counts
+    ensures { result ≡ counts_of (plan_at s.entry.begun (record { front = 1; back = 1 })) }
 {
-    let none = [0u64; 1];
-    let mut e = [0u8; 1];
-    let mut s = [0u64; 1];
-    let mut u = [0u64; 1];
-    let mut r = [0u64; 1];
-    let mut w = [0u64; 1];
-    change_lay::lay_plan(
-        v,
-        f,
-        c,
-        p,
-        1,
-        1,
-        list,
-        shared,
-        table,
-        &none[0..0],
-        &mut e,
-        &mut s,
-        &mut u,
-        &mut r,
-        &mut w,
-    )
+    let mut out = Outputs {
+        edits: &mut [],
+        shares: &mut [],
+        unrefs: &mut [],
+        releases: &mut [],
+        adds: &mut [],
+        writes: &mut [],
+    };
+    s.lay_plan(Places { front: 1, back: 1 }, 0..0, &mut out)
 }
 
 // How many sectors of a change take new extents.
@@ -128,25 +102,17 @@ fn numbers_of(n: Counts, sectors: usize, pieces: Sums, size: u64) -> Numbers
 }
 
 // The first half: what a plan needs, or what refuses it, places and room aside.
-pub fn draft_change(
-    v: Volume,
-    f: File,
-    c: RangeChange,
-    w: Fill,
-    p: Parts,
-    list: &[u8],
-    shared: &[u8],
-    table: &[u64],
-) -> Result<Needs, Refusal>
-    requires { Asked v f c w list.now shared.now table.now × Parting (in_leaves (items list.now) shared.now) c p }
-    ensures { draft_said (items list.now) result ≡ drafted (lent_ground v f list.now shared.now table.now) (filled_of c w (items list.now)) piece_limit }
+pub fn draft_change(a: Asked) -> Result<Needs, Refusal>
+    ensures { draft_said (items_in a.entry.begun.base) result ≡ drafted (ground_of a.entry.begun) (whole a.entry) piece_limit }
 {
-    change_refusals::change_refusal(v, f, c, p, list, shared, table)?;
-    let n = count_plan(v, f, c, p, list, shared, table);
-    let extents = extents_of(v, c, w, p);
-    let pieces = change_holes::sum_holes(extents, list);
+    change_refusals::change_refusal(a.begun)?;
+    let b = a.begun;
+    let n = count_plan(Started { begun: b });
+    let extents = extents_of(b.base.volume, b.range, a.fill, b.parts);
+    let pieces = change_holes::along(extents, b.base.leaves.list).sum_holes();
+    let sectors = sectors_anew(b.range, b.parts);
     Ok(Needs {
-        numbers: numbers_of(n, sectors_anew(c, p), pieces, w.size),
+        numbers: numbers_of(n, sectors, pieces, a.fill.size),
         extents,
     })
 }
