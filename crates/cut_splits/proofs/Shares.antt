@@ -7,15 +7,23 @@ use lib.Dec.{eqb, ltb}
 use borrow.Author.Tests.{not-true}
 use Rattle.std.specs.List.{filter}
 use Rattle.records.specs.Select.{keep}
+use Rattle.records.specs.Stages.{stage}
 use Rattle.records.proofs.Tests.{both_right, every_map}
 use Rattle.records.proofs.Lists.{every-mapped}
-use Rattle.records.proofs.Picks.{keep_where, keep-mapped, keep-keep, every-kept}
+use Rattle.records.proofs.Picks.{keep_where, keep-mapped, keep-keep, every-kept, stage-kept}
 use Rattle.item.specs.Items.{Fields, hole, end}
+use Rattle.table.specs.declared.Row.{Row}
+use Rattle.table.specs.Rows.{one_more_reference}
 use Rattle.cut_def.specs.Cuts.{split}
 use Rattle.cut_def.specs.Refs.{Ref, ref_of}
 use Rattle.ref_def.proofs.Among.{nonzero, any_nonzero}
 use Rattle.plan_lines.proofs.Filtered.{keep_filter}
-use Rattle.cut_splits.specs.Splits.{elsewhere, shared}
+use Rattle.cut_splits.specs.Splits.{split_refusal, elsewhere, shared}
+
+-- their refusals, item by item
+pub splits_stage : (lo hi : ℕ) (rs : List Row) (fs : List Fields)
+    → stage (λ (q : Ref). one_more_reference q.start rs) (map ref_of (keep (split lo hi) fs)) ≡ stage (split_refusal lo hi rs) fs
+splits_stage lo hi rs fs = stage-kept (split lo hi) ref_of (λ (q : Ref). one_more_reference q.start rs) fs
 
 -- they are the references of the items that are shared
 pub split_refs : (lo hi one two : ℕ) (fs : List Fields) → keep (elsewhere (one ∷ two ∷ [])) (map ref_of (keep (split lo hi) fs)) ≡ map ref_of (filter (shared lo hi one two) fs)

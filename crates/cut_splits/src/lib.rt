@@ -33,6 +33,7 @@ fn split_refusal(table: Table, lo: u64, hi: u64, item: Item) -> Result<(), Refus
 }
 
 // The first refusal of a split's share, in the list's order.
+#[tactic(auto, using(crate::proofs::Shares::splits_stage), unfolding(records::specs::Stages::first, records::specs::Stages::stage))]
 pub fn splits_refusal(list: &[u8], table: Table, lo: u64, hi: u64) -> Result<(), Refusal>
     ensures { why result ≡ stage (λ (q : Ref). one_more_reference q.start (rows table.entry.numbers.now)) (map ref_of (keep (split lo hi) (items list.now))) }
 {
@@ -50,7 +51,8 @@ fn is_shared(k: Cut, item: Item) -> bool
     cut_def::is_split(k.lo, k.hi, item) && !(start == k.one || start == k.two)
 }
 
-// The splits' shares, but for those of two extents, whose references are compared; 0 is no extent.
+// The splits' shares, but for those of two extents, whose references are compared; 0 is no extent. That the count has 64 bits is
+// asked for: a list has few items, but n counts lines that were there before, of which nothing else is known.
 pub fn put_splits(k: Cut, list: &[u8], out: &mut [u64], n: usize) -> usize
     requires { n + length (items list.now) < 2 ^ 64 }
     ensures { Laid ref_numbers 2 n (keep (elsewhere (k.one ∷ k.two ∷ [])) (map ref_of (keep (split k.lo k.hi) (items list.now)))) out.old result out.new }

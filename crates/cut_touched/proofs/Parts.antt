@@ -88,9 +88,6 @@ unmet false b h e = refl
 -- ---- the touched part of a list
 
 module _ (lo hi : ℕ) (fs : List Fields) (s : Range ℕ) (t : Touching lo hi fs s) where
-  pub part-most : length (part s.start s.end fs) ≤ length fs
-  part-most = simp (length-take, length-drop) (omega arith)
-
   pub part_splits : keep (split lo hi) (part s.start s.end fs) ≡ keep (split lo hi) fs
   part_splits =
       let m : (f : Fields) → untouched lo hi f ≡ true → not (split lo hi f) ≡ true = λ f e. unmet (split lo hi f) (touched lo hi f) (split-touched lo hi f) e in
@@ -119,9 +116,6 @@ module _ (k : Cut) (fs : List Fields) (s : Range ℕ) (t : Touching k.lo k.hi fs
 -- ---- the same of what `touched_part` gives
 
 module _ (lo hi : ℕ) (fs gs : List Fields) (p : TouchedPart lo hi fs gs) where
-  pub touched-most : length gs ≤ length fs
-  touched-most = rw p.those (part-most lo hi fs p.range p.all)
-
   pub touched_splits : keep (split lo hi) gs ≡ keep (split lo hi) fs
   touched_splits = ap (keep (split lo hi)) p.those ∙ part_splits lo hi fs p.range p.all
 

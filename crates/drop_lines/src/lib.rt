@@ -210,7 +210,8 @@ fn put_sized<const N: usize>(
     chains.put_lines(leaves, table, unrefs, releases, at)
 }
 
-// A line for each drop: a release if its extent is released, else an unref; each by extent start, then in list order.
+// A line for each drop: a release if its extent is released, else an unref; each by extent start, then in list order. That the
+// counts have 64 bits is asked for: a list has few items, but `at` counts lines that were there before.
 pub fn put_drops(
     c: Cut,
     leaves: Leaves,
