@@ -9,6 +9,7 @@ use Rattle.table.specs.Rows.{rows}
 use Rattle.plan_def.specs.Plans.{Plan}
 use Rattle.plan_def.specs.ReadBack.{edits_in, refs_in, adds_in}
 use Rattle.apply_def.specs.Apply.{Applying, or_applied, apply}
+use Rattle.apply_def.specs.declared.Parts.{Parts as Slices}
 
 -- the byte says put or delete
 abbrev pub tag_sound : List ℕ → Bool
@@ -24,6 +25,10 @@ pub record Parts : Type 0 where
 
 abbrev pub parts_of : (edits shares unrefs releases adds : List ℕ) → Parts
 parts_of edits shares unrefs releases adds = record { edits = edits; shares = shares; unrefs = unrefs; releases = releases; adds = adds }
+
+-- as code lends them
+abbrev pub lent : Slices → Parts
+lent p = parts_of p.edits.now p.shares.now p.unrefs.now p.releases.now p.adds.now
 
 abbrev pub plan_lent : Parts → Plan
 plan_lent p =

@@ -3,4 +3,4 @@ use Rattle.apply_counts.proofs.Lines.{Marking}
 use Rattle.apply_counts.proofs.mark.Given as goal
 
 abbrev pub invariant-loop-line : goal.invariant-loop-line
-invariant-loop-line l = Marking (rows l.table) l.lines l.initial.marks l.line-index l.marks
+invariant-loop-line l = Marking (rows l.table.numbers.now) l.lines l.initial.gone l.line-index l.gone
