@@ -94,7 +94,7 @@ nets_read (r ∷ rs) [] = refl
 nets_read (r ∷ rs) (d ∷ ds) = ap (λ (b : Bool). net_fits r.references d && b) (nets_read rs ds)
 
 -- what the definition of applying says of a row
-moved_net : (n g l : ℕ) (d : ℤ) → d ≡ pos g -ℤ pos l → net n d ≡ n + g - l
+pub moved_net : (n g l : ℕ) (d : ℤ) → d ≡ pos g -ℤ pos l → net n d ≡ n + g - l
 moved_net n g l (pos m) e = let k : g ≡ m + l = omega (arith, ints) in omega arith
 moved_net n g l (negsuc m) e = let k : l ≡ g + suc m = omega (arith, ints) in omega arith
 

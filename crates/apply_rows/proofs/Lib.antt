@@ -1,7 +1,8 @@
 pub mod Rows
+pub mod Orders
 pub mod Stays
 pub mod Inserts
-pub mod Orders
+pub mod Placings
 pub mod Merges
+pub mod Pairs
 pub mod Whole
-pub mod Parts
