@@ -1,5 +1,5 @@
 -- For the code only: whether the rows of adds are sound, and clear of the rows that stay and of each other.
-use Rattle.std.specs.Prelude.{Bool, true, ◌&&◌, ◌||◌, not, List, [], ◌∷◌, ℕ, ◌+◌, ◌^◌, eqb, ltb, get_or}
+use Rattle.std.specs.Prelude.{Bool, true, ◌&&◌, ◌||◌, not, List, [], ◌∷◌, ℕ, ◌+◌, ◌^◌, eqb, ltb}
 use Rattle.records.specs.Stages.{every}
 use Rattle.table.specs.declared.Row.{Row}
 use Rattle.plan_def.specs.Plans.{Add}
@@ -9,26 +9,26 @@ use Rattle.plan_def.specs.Places.{clear}
 abbrev pub add_sound : Add → Bool
 add_sound a = not (eqb a.start 0) && not (eqb a.length 0) && ltb (a.start + a.length) (2 ^ 64)
 
--- it shares no byte with a row that stays, from number k on
-unfoldable pub clear_from : (gone : List ℕ) → ℕ → (start length : ℕ) → List Row → Bool
-clear_from gone k start length [] = true
-clear_from gone k start length (r ∷ rs) = (not (eqb (get_or gone k 0) 0) || clear start length r.start r.length) && clear_from gone (k + 1) start length rs
+-- it shares no byte with a row that stays
+unfoldable pub clear_staying : (gone : List Bool) → (start length : ℕ) → List Row → Bool
+clear_staying (g ∷ gs) start length (r ∷ rs) = (g || clear start length r.start r.length) && clear_staying gs start length rs
+clear_staying gs start length rs = true
 
 -- nor with another add
 abbrev pub clear_of : (start length : ℕ) → Add → Bool
 clear_of start length b = clear b.start b.length start length
 
-abbrev pub add_fits : (gone : List ℕ) → List Row → Add → List Add → Bool
-add_fits gone rs a adds = add_sound a && (clear_from gone 0 a.start a.length rs && every (clear_of a.start a.length) adds)
+abbrev pub add_fits : (gone : List Bool) → List Row → Add → List Add → Bool
+add_fits gone rs a adds = add_sound a && (clear_staying gone a.start a.length rs && every (clear_of a.start a.length) adds)
 
-unfoldable pub adds_fit : (gone : List ℕ) → List Row → List Add → Bool
+unfoldable pub adds_fit : (gone : List Bool) → List Row → List Add → Bool
 adds_fit gone rs [] = true
 adds_fit gone rs (a ∷ adds) = add_fits gone rs a adds && adds_fit gone rs adds
 
 -- ---- the same in two parts: each add by itself, and every two
 
-abbrev pub add_alone : (gone : List ℕ) → List Row → Add → Bool
-add_alone gone rs a = add_sound a && clear_from gone 0 a.start a.length rs
+abbrev pub add_alone : (gone : List Bool) → List Row → Add → Bool
+add_alone gone rs a = add_sound a && clear_staying gone a.start a.length rs
 
 abbrev pub adds_apart : Add → Add → Bool
 adds_apart a b = clear_of a.start a.length b

@@ -1,64 +1,47 @@
 // Refusal 3 of the table after a plan: the rows of adds are tested one by one, then by pairs, and nothing is written.
 #![tactic(auto)]
 
-ghost use Rattle.std.specs.Prelude.{◌≡◌, not, true, ◌||◌, map, ◌+◌, ◌*◌, ◌/◌, ◌≤◌, ◌<◌, eqb, length};
-ghost use Rattle.records.specs.Lent.{old, new};
+ghost use Rattle.std.specs.Prelude.{◌≡◌, map, ◌≤◌, length};
 ghost use Rattle.records.specs.Refusals.{why};
 ghost use Rattle.records.specs.Stages.{unless, every, pairs};
-ghost use Rattle.table.specs.Rows.{rows, table_kept};
+ghost use Rattle.table.specs.Rows.{rows};
 ghost use Rattle.plan_def.specs.ReadBack.{add_in, adds_in};
-ghost use Rattle.plan_def.specs.Places.{clear};
-ghost use Rattle.apply_clear.specs.Clear.{clear_from, clear_of, add_alone, adds_apart, adds_fit};
+ghost use Rattle.apply_clear.specs.Clear.{clear_staying, clear_of, add_alone, adds_apart, adds_fit};
 
+use apply_counts::Marked;
 use plan_places::is_clear;
 use records::refusal::{Refusal, check};
 use records::sum_fits;
-use table::Row;
 
-// Whether a new extent shares no byte with a row, or the row goes.
-fn is_clear_of_row(row: Row, gone: u8, start: u64, len: u64) -> bool
-    ensures { result ≡ (not (eqb gone 0) || clear start len row.start row.length) }
+// Whether a new extent shares no byte with a row that stays, row by row.
+fn is_clear_by_row(m: Marked, start: u64, len: u64) -> bool
+    ensures { result ≡ clear_staying m.entry.counts.gone.now start len (rows m.entry.table.numbers.now) }
 {
-    gone != 0 || is_clear(start, len, row.start, row.length)
-}
-
-// Whether a new extent shares no byte with a row that stays, row by row. By number: a row and its mark stand at one number.
-fn is_clear_by_row(table: &[u64], gone: &[u8], start: u64, len: u64) -> bool
-    requires { length (rows table.now) ≤ length gone.now }
-    ensures { result ≡ clear_from gone.now 0 start len (rows table.now) }
-{
-    for k in 0..table.len() / 5 {
-        if !is_clear_of_row(table::row_at(table, k), gone[k], start, len) {
-            return false;
-        }
-    }
-    true
+    table::rows(m.table.numbers).zip(m.counts.gone).all(|(row, gone)| *gone
+        || is_clear(start, len, row.start, row.length))
 }
 
 // The same: an extent that is clear of all rows, as a search by halves says, is clear of those that stay.
-fn is_clear_of_rows(table: &[u64], gone: &[u8], start: u64, len: u64) -> bool
-    requires { (table_kept (rows table.now) ≡ true) × (length (rows table.now) ≤ length gone.now) }
-    ensures { result ≡ clear_from gone.now 0 start len (rows table.now) }
+fn is_clear_of_rows(m: Marked, start: u64, len: u64) -> bool
+    ensures { result ≡ clear_staying m.entry.counts.gone.now start len (rows m.entry.table.numbers.now) }
 {
-    plan_places::place_clear(table, start, len) || is_clear_by_row(table, gone, start, len)
+    plan_places::place_clear(m.table, start, len) || is_clear_by_row(m, start, len)
 }
 
 // Whether an add is sound and clear of the rows that stay.
 #[tactic(auto, unfolding(plan_def::specs::ReadBack::add_in))]
-fn add_fits(table: &[u64], gone: &[u8], add: &[u64; 3]) -> bool
-    requires { (table_kept (rows table.now) ≡ true) × (length (rows table.now) ≤ length gone.now) }
-    ensures { result ≡ add_alone gone.now (rows table.now) (add_in add.now) }
+fn add_fits(m: Marked, add: &[u64; 3]) -> bool
+    ensures { result ≡ add_alone m.entry.counts.gone.now (rows m.entry.table.numbers.now) (add_in add.now) }
 {
     let [start, len, _] = *add;
-    start != 0 && len != 0 && sum_fits(start, len) && is_clear_of_rows(table, gone, start, len)
+    start != 0 && len != 0 && sum_fits(start, len) && is_clear_of_rows(m, start, len)
 }
 
 // Whether each add fits by itself.
-fn each_fits(table: &[u64], gone: &[u8], adds: &[[u64; 3]]) -> bool
-    requires { (table_kept (rows table.now) ≡ true) × (length (rows table.now) ≤ length gone.now) }
-    ensures { result ≡ every (add_alone gone.now (rows table.now)) (map add_in adds.now) }
+fn each_fits(m: Marked, adds: &[[u64; 3]]) -> bool
+    ensures { result ≡ every (add_alone m.entry.counts.gone.now (rows m.entry.table.numbers.now)) (map add_in adds.now) }
 {
-    adds.iter().all(|add| add_fits(table, gone, add))
+    adds.iter().all(|add| add_fits(m, add))
 }
 
 // Whether a new extent shares no byte with some adds.
@@ -68,7 +51,7 @@ fn is_clear_of_adds(adds: &[[u64; 3]], start: u64, len: u64) -> bool
     adds.iter().all(|add| is_clear(add[0], add[1], start, len))
 }
 
-// Whether every two adds share no byte, by pairs.
+// Whether every two adds share no byte, by pairs: a loop over what is left, as each add is compared with those behind it.
 #[tactic(auto, unfolding(records::specs::Stages::pairs, plan_def::specs::ReadBack::add_in))]
 fn plain_apart(adds: &[[u64; 3]]) -> bool
     ensures { result ≡ pairs adds_apart (map add_in adds.now) }
@@ -83,26 +66,16 @@ fn plain_apart(adds: &[[u64; 3]]) -> bool
     true
 }
 
-// Whether every two adds share no byte: their extents, each as a pair of its start and length, sorted in a lent buffer.
-fn sorted_apart(adds: &[[u64; 3]], extents: &mut [(u64, u64)]) -> bool
-    requires { length adds.now ≤ length extents.old }
-    ensures { result ≡ pairs adds_apart (map add_in adds.now) }
-{
-    for (k, add) in adds.iter().enumerate() {
-        extents[k] = (add[0], add[1]);
-    }
-    plan_apart::are_apart(&mut extents[..adds.len()])
-}
-
-// The same with a buffer of its own, for N adds: a small one takes less time to zero. It stays out of its callers, whose every
-// call would pay for it.
+// Whether up to N adds share no byte, every two of them: their extents, sorted in a buffer of its own: a small one takes less time
+// to zero. It stays out of its callers, whose every call would pay for it.
 #[inline(never)]
 fn apart_within<const N: usize>(adds: &[[u64; 3]]) -> bool
     requires { (length adds.now ≤ N) × (N ≤ 65536) }
     ensures { result ≡ pairs adds_apart (map add_in adds.now) }
 {
     let mut extents = [(0u64, 0u64); N];
-    sorted_apart(adds, &mut extents)
+    apply_rows::add_pairs(adds, &mut extents);
+    plan_apart::are_apart(&mut extents[..adds.len()])
 }
 
 // Whether every two adds share no byte. Few are compared by pairs; so are very many, if the first half passes.
@@ -125,14 +98,10 @@ fn are_adds_apart(adds: &[[u64; 3]]) -> bool
     are_adds_apart(&adds[..n / 2]) && plain_apart(adds)
 }
 
-// Refusal 3 of the adds, of which `gone` says what rows they need not be clear of.
-pub fn adds_refusal(table: &[u64], gone: &[u8], adds: &[u64]) -> Result<(), Refusal>
-    requires { (table_kept (rows table.now) ≡ true) × (length (rows table.now) ≤ length gone.now) }
-    ensures { why result ≡ unless (adds_fit gone.now (rows table.now) (adds_in adds.now)) 3 }
+// Refusal 3 of the adds, which need not be clear of the rows that go.
+pub fn adds_refusal(m: Marked, adds: &[u64]) -> Result<(), Refusal>
+    ensures { why result ≡ unless (adds_fit m.entry.counts.gone.now (rows m.entry.table.numbers.now) (adds_in adds.now)) 3 }
 {
     let (adds, _) = adds.as_chunks::<3>();
-    check(
-        each_fits(table, gone, adds) && are_adds_apart(adds),
-        Refusal::Table,
-    )
+    check(each_fits(m, adds) && are_adds_apart(adds), Refusal::Table)
 }

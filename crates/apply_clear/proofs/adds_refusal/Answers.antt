@@ -9,8 +9,8 @@ use Rattle.apply_clear.proofs.adds_refusal.Goals as goal
 
 pub returns : goal.returns
 returns c =
-    let gone = c.args.gone.now in
-    let rs = rows c.args.table.now in
+    let gone = c.args.m.counts.gone.now in
+    let rs = rows c.args.m.table.numbers.now in
     let cs = c.as_chunks.result.0.now in
     let apart = pairs adds_apart (map add_in cs) in
     let q : c.if-each_fits.check ≡ (every (add_alone gone rs) (map add_in cs) && apart) =

@@ -11,6 +11,6 @@ use Rattle.apply_clear.proofs.each_fits.Goals as goal
 pub returns : goal.returns
 returns c =
     let cs = c.args.adds.now in
-    let h : c.all.result ≡ list_all (λ a. add_alone c.args.gone.now (rows c.args.table.now) (add_in a)) cs =
-    all_from_yields_List (λ a. add_alone c.args.gone.now (rows c.args.table.now) (add_in a)) _ _ c.all.result c.all.ensures.ran (YieldsList-from_slice cs cc) (λ x b q k. search (rules, tests)) in
-    h ∙ all_read add_in (add_alone c.args.gone.now (rows c.args.table.now)) cs
+    let h : c.all.result ≡ list_all (λ a. add_alone c.args.m.counts.gone.now (rows c.args.m.table.numbers.now) (add_in a)) cs =
+    all_from_yields_List (λ a. add_alone c.args.m.counts.gone.now (rows c.args.m.table.numbers.now) (add_in a)) _ _ c.all.result c.all.ensures.ran (YieldsList-from_slice cs cc) (λ x b q k. search (rules, tests)) in
+    h ∙ all_read add_in (add_alone c.args.m.counts.gone.now (rows c.args.m.table.numbers.now)) cs
