@@ -17,8 +17,8 @@ use records::sum_fits;
 fn is_clear_by_row(m: Marked, start: u64, len: u64) -> bool
     ensures { result ≡ clear_staying m.entry.counts.gone.now start len (rows m.entry.table.numbers.now) }
 {
-    table::rows(m.table.numbers).zip(m.counts.gone).all(|(row, gone)| *gone
-        || is_clear(start, len, row.start, row.length))
+    let mut marked = table::rows(m.table.numbers).zip(m.counts.gone);
+    marked.all(|(row, gone)| *gone || is_clear(start, len, row.start, row.length))
 }
 
 // The same: an extent that is clear of all rows, as a search by halves says, is clear of those that stay.
