@@ -6,7 +6,7 @@ use Prim.Native.Nat.{ℕ, zero, suc, ◌*◌, ◌/◌, ◌<◌, ◌≤◌}
 use native.Mathlib.Omega.{arith}
 use lib.Dec.{leb}
 use lib.ListN.{length, take}
-use borrow.Author.Tests.{le-leb, leb-true}
+use borrow.Author.Tests.{le-leb}
 use Rattle.records.specs.Stages.{unless, first, first_of, stage, every, pairs}
 use Rattle.records.proofs.Tests.{first-zero, first_last, first_assoc, first_go, first_stop, unless-zero}
 use Rattle.item.specs.Items.{Fields, items}
@@ -21,8 +21,8 @@ use Rattle.apply_def.specs.Apply.{edits_rise, list_after, rows_after, row_missin
 use Rattle.plan_def.specs.ReadBack.{edits_in}
 use Rattle.apply_def.specs.Lent.{Parts, items_in, rows_in, count_broken, parts_broken, plan_lent, apply_lent}
 use Rattle.apply_walk.specs.Merge.{Rising}
-use Rattle.apply_refusals.specs.Stages.{ones, others, Ready, result_refusal}
-use Rattle.apply_refusals.proofs.Lent.{items-many, rows-many}
+use Rattle.apply_refusals.specs.Stages.{ones, others, Inside, Ready, result_refusal}
+use Rattle.apply_refusals.proofs.Lent.{items-many, rows-many, ones-told}
 
 -- ---- nothing is refused
 
@@ -58,7 +58,7 @@ module _ (number sector n m : ℕ) (list table edits : List ℕ) (r : Ready numb
   lent-sector = sector-some sector lent_facts.sound
 
   pub lent_rows : length (rows_in m table) ≡ m
-  lent_rows = rows-many m table r.tabled
+  lent_rows = rows-many m table r.inside.tabled
 
   -- what is left of the definition
   pub apply-is : (generation room space : ℕ) (p : Plan) → p.edits ≡ edits_in edits
@@ -69,8 +69,8 @@ module _ (number sector n m : ℕ) (list table edits : List ℕ) (r : Ready numb
       let fs : List Fields = items_in n list in
       let rs : List Row = rows_in m table in
       let f : Facts number sector (take (n * 70) list) (take (m * 5) table) edits = lent_facts in
-      let a : leb (length fs) 65536 ≡ true = le-leb (length fs) 65536 (omega (arith, items-many n list r.listed, r.few_items)) in
-      let b : leb (length rs) 65536 ≡ true = le-leb (length rs) 65536 (omega (arith, lent_rows, r.few_rows)) in
+      let a : leb (length fs) 65536 ≡ true = le-leb (length fs) 65536 (omega (arith, items-many n list r.inside.listed, r.inside.few_items)) in
+      let b : leb (length rs) 65536 ≡ true = le-leb (length rs) 65536 (omega (arith, lent_rows, r.inside.few_rows)) in
       let g : pairs edits_rise p.edits ≡ true = rw e f.rising in
       let over : ℕ = unless (leb (length (list_after p fs)) 65536 && leb (length (rows_after generation p rs)) 65536) 1 in
       let miss : ℕ = stage (row_missing rs) (p.shares ++ (p.unrefs ++ p.releases)) in
@@ -115,7 +115,8 @@ module _ (sector number generation n m : ℕ) (list table : List ℕ) (p : Parts
       or_or _ _ result
       ∙ ap (λ (x : ℕ). or_applied x result)
       (flat (count_broken n 70 list) (count_broken m 5 table) (parts_broken p) (unless (leb (length fs) 65536) 1) (unless (leb (length rs) 65536) 1)
-      (unless (list_kept number fs) 2) (unless (pairs edits_rise (edits_in p.edits)) 2) (unless (table_kept rs) 3) (unless (sector_sound sector) 4) (unless (every (whole_sectors sector) fs) 4) _ _ _ _ _ _)
+      (unless (list_kept number fs) 2) (unless (pairs edits_rise (edits_in p.edits)) 2) (unless (table_kept rs) 3) (unless (sector_sound sector) 4) (unless (every (whole_sectors sector) fs) 4) _ _ _ _ _ _
+      ∙ ap (λ (x : ℕ). first x later) (sym (ones-told n m (parts_broken p) list table)))
     where
       flat : (a b c d e f g h i j k l m n o p : ℕ)
           → first (first a (first b (first c 0))) (first (first d (first e (first f (first g (first h (first i (first j (first k (first l (first m (first n (first o 0)))))))))))) (first p 0))
@@ -135,30 +136,11 @@ module _ (sector number generation n m : ℕ) (list table : List ℕ) (p : Parts
       ∙ sym (first_stop y (result_refusal sector number generation (length list / 70) (length table / 5) fs rs (plan_lent p)) h))
 
   -- neither: what applying then does, and what is known
-  module _ (x : ℕ) (e : x ≡ ones n m list table p) (z : x ≡ 0) where
-    parts : (first (count_broken n 70 list) (first (count_broken m 5 table) (parts_broken p)) ≡ 0) × (first (unless (leb (length fs) 65536) 1) (unless (leb (length rs) 65536) 1) ≡ 0)
-    parts = first-zero (first (count_broken n 70 list) (first (count_broken m 5 table) (parts_broken p))) _ (sym e ∙ z)
+  pub lent_ready : (y : ℕ) → Inside n m list table → y ≡ others number sector (take (n * 70) list) (take (m * 5) table) p.edits → y ≡ 0 → Ready number sector n m list table p.edits
+  lent_ready y i q h = record { inside = i; zero = sym q ∙ h }
 
-    pub lent-listed : n ≤ length list / 70
-    lent-listed = leb-true n (length list / 70) (unless-zero (leb n (length list / 70)) 1 (first-zero (count_broken n 70 list) _ parts.0).0 (λ q. omega arith))
-
-    pub lent-tabled : m ≤ length table / 5
-    lent-tabled = leb-true m (length table / 5) (unless-zero (leb m (length table / 5)) 1 (first-zero (count_broken m 5 table) _ (first-zero (count_broken n 70 list) _ parts.0).1).0 (λ q. omega arith))
-
-    pub lent_ready : (y : ℕ) → y ≡ others number sector (take (n * 70) list) (take (m * 5) table) p.edits → y ≡ 0 → Ready number sector n m list table p.edits
-    lent_ready y q h =
-        let i = leb-true (length fs) 65536 (unless-zero (leb (length fs) 65536) 1 (first-zero (unless (leb (length fs) 65536) 1) _ parts.1).0 (λ w. omega arith)) in
-        let j = leb-true (length rs) 65536 (unless-zero (leb (length rs) 65536) 1 (first-zero (unless (leb (length fs) 65536) 1) _ parts.1).1 (λ w. omega arith)) in
-        record {
-          listed = lent-listed;
-          tabled = lent-tabled;
-          few_items = omega (arith, items-many n list lent-listed);
-          few_rows = omega (arith, rows-many m table lent-tabled);
-          zero = sym q ∙ h;
-        }
-
-    pub lent-apply : apply_lent sector number generation n m list table p ≡ apply sector number generation (length list / 70) (length table / 5) fs rs (plan_lent p)
-    unfolding first_of
-    lent-apply =
-        ap (λ (w : ℕ). or_applied w (apply sector number generation (length list / 70) (length table / 5) fs rs (plan_lent p)))
-        (ap (λ (w : ℕ). first (count_broken n 70 list) (first (count_broken m 5 table) w)) (first_last (parts_broken p)) ∙ parts.0)
+  pub lent-apply : (x : ℕ) → x ≡ ones n m list table p → x ≡ 0 → apply_lent sector number generation n m list table p ≡ apply sector number generation (length list / 70) (length table / 5) fs rs (plan_lent p)
+  unfolding first_of
+  lent-apply x e z =
+      ap (λ (w : ℕ). or_applied w (apply sector number generation (length list / 70) (length table / 5) fs rs (plan_lent p)))
+      (ap (λ (w : ℕ). first (count_broken n 70 list) (first (count_broken m 5 table) w)) (first_last (parts_broken p)) ∙ (first-zero (first (count_broken n 70 list) (first (count_broken m 5 table) (parts_broken p))) _ (sym e ∙ z)).0)

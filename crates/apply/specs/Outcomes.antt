@@ -7,7 +7,7 @@ use Rattle.table.specs.Rows.{row_numbers}
 use Rattle.item.specs.Items.{encode}
 use Rattle.plan_def.specs.Outputs.{laid}
 use Rattle.apply_def.specs.Apply.{Applying, applied, refusal}
-use Rattle.apply.specs.declared.Sizes.{Sizes}
+use Rattle.apply_refusals.specs.declared.Sizes.{Sizes}
 
 -- how many records and rows there are after a plan, or the number of a refusal
 pub data Told : Type 0 where

@@ -26,12 +26,12 @@ pub struct RowCounts<'a> {
     ghost each_gone: { rows ≤ length gone.now },
 }
 
-// A table with what was counted of its rows.
+// A table with what was counted of its rows, each of them.
 #[derive(Clone, Copy)]
-pub struct Marked<'a> {
+pub struct Marked<'a, 'b> {
     pub table: Table<'a>,
-    pub counts: RowCounts<'a>,
-    ghost each_row: { length (rows table.numbers.now) ≤ counts.rows },
+    pub counts: RowCounts<'b>,
+    ghost each_row: { length (rows table.numbers.now) ≡ counts.rows },
 }
 
 // The counts of the rows that lines name, moved by `by` for each line; 14 if one has no row, and the others are counted still.
@@ -61,22 +61,28 @@ fn mark(table: Table, lines: &[u64], gone: &mut [bool])
     }
 }
 
-// By how much each row's count moves and which rows go, in arrays of zeros; 14 if a line has no row.
-pub fn count_lines(
-    table: Table,
+// A table with what a plan's lines do to its rows, counted in arrays of zeros; and 14 if a line has no row.
+pub fn count_lines<'a, 'b>(
+    table: Table<'a>,
     plan: Parts,
-    changes: &mut [i64],
-    gone: &mut [bool],
-) -> Result<(), Refusal>
+    changes: &'b mut [i64],
+    gone: &'b mut [bool],
+) -> (Marked<'a, 'b>, Result<(), Refusal>)
     requires { Zeros (length (rows table.numbers.now)) changes.old gone.old }
-    ensures { (why result ≡ stage (row_missing (rows table.entry.numbers.now)) (refs_in plan.entry.shares.now ++ (refs_in plan.entry.unrefs.now ++ refs_in plan.entry.releases.now)))
-        × Counted (plan_lent (lent plan.entry)) (rows table.entry.numbers.now) changes.new gone.new }
+    ensures { (why result.1 ≡ stage (row_missing (rows table.entry.numbers.now)) (refs_in plan.entry.shares.now ++ (refs_in plan.entry.unrefs.now ++ refs_in plan.entry.releases.now)))
+        × Counted (plan_lent (lent plan.entry)) (rows table.entry.numbers.now) result.0.counts.changes.now result.0.counts.gone.now
+        × (result.0.table ≡ table.entry) }
 {
     mark(table, plan.releases, gone);
     let a = tally(table, plan.shares, 1, changes);
     let b = tally(table, plan.unrefs, -1, changes);
     let c = tally(table, plan.releases, -1, changes);
-    a.and(b).and(c)
+    let counts = RowCounts {
+        rows: table.numbers.len() / table::WIDTH,
+        changes,
+        gone,
+    };
+    (Marked { table, counts }, a.and(b).and(c))
 }
 
 impl<'a> RowCounts<'a> {
@@ -95,7 +101,7 @@ pub fn net(references: u64, change: i64) -> Option<u64>
     references.checked_add_signed(change)
 }
 
-impl<'a> Marked<'a> {
+impl<'a, 'b> Marked<'a, 'b> {
     // Refusal 3: a net count that leaves 64 bits.
     pub fn nets_refusal(self) -> Result<(), Refusal>
         ensures { why result ≡ unless (nets self.entry.counts.changes.now (rows self.entry.table.numbers.now)) 3 }

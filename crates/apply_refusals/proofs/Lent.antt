@@ -10,7 +10,12 @@ use borrow.Author.Tests.{leb-true}
 use Rattle.records.specs.Stages.{unless, first}
 use Rattle.item.proofs.Laws.{items-length}
 use Rattle.table.proofs.Laws.{rows-length}
-use Rattle.apply_def.specs.Lent.{items_in, rows_in}
+use Rattle.std.specs.Prelude.{Result, Ok, Err, IfOk}
+use Rattle.records.specs.declared.refusal.Refusal.{Refusal}
+use Rattle.records.specs.Refusals.{why}
+use Rattle.records.proofs.Tests.{first-zero, unless-zero}
+use Rattle.apply_def.specs.Lent.{Parts, items_in, rows_in, count_broken, parts_broken}
+use Rattle.apply_refusals.specs.Stages.{ones, Inside}
 use Rattle.apply_items.proofs.Whole.{items-first}
 use Rattle.apply_rows.proofs.Rows.{rows-first}
 
@@ -38,3 +43,17 @@ ones-told n m x list table = go (leb n (length list / 70)) (leb m (length table 
     go true true f g = ap₂ (λ (i j : ℕ). first (first 0 (first 0 x)) (first (unless (leb i 65536) 1) (unless (leb j 65536) 1))) (sym (f refl)) (sym (g refl))
     go true false f g = refl
     go false b f g = refl
+
+-- where nothing is refused, they are there
+pub ones_inside : (n m : ℕ) (list table : List ℕ) (p : Parts) (r : Result (Unit {0}) Refusal) → why r ≡ ones n m list table p → IfOk r (λ _. Inside n m list table)
+ones_inside n m list table p (Err e) h = tt
+ones_inside n m list table p (Ok x) h =
+    let a = first-zero (first (count_broken n 70 list) (first (count_broken m 5 table) (parts_broken p))) _ (sym h) in
+    let b = first-zero (count_broken n 70 list) _ a.0 in
+    let c = first-zero (unless (leb n 65536) 1) (unless (leb m 65536) 1) a.1 in
+    record {
+      listed = leb-true n (length list / 70) (unless-zero (leb n (length list / 70)) 1 b.0 (λ q. omega arith));
+      tabled = leb-true m (length table / 5) (unless-zero (leb m (length table / 5)) 1 (first-zero (count_broken m 5 table) _ b.1).0 (λ q. omega arith));
+      few_items = leb-true n 65536 (unless-zero (leb n 65536) 1 c.0 (λ q. omega arith));
+      few_rows = leb-true m 65536 (unless-zero (leb m 65536) 1 c.1 (λ q. omega arith));
+    }

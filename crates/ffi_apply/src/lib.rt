@@ -9,7 +9,7 @@ ghost use Rattle.apply_def.specs.Lent.{apply_lent, parts_of};
 ghost use Rattle.apply.specs.Outcomes.{applied_said};
 ghost use Rattle.ffi_apply.specs.Exports.{Heard, Exported};
 
-use apply::Sizes;
+use apply::{Parts, Sizes, Target};
 use records::refusal::Refusal;
 
 // An answer's byte, and its two counts if the plan is applied.
@@ -50,8 +50,19 @@ pub extern "C" fn zag_apply(
     if answer.len() < 2 {
         return Refusal::Room.number();
     }
-    let a = apply::apply_plan(
-        sector, number, generation, list, items, table, rows, edits, shares, unrefs, releases, adds,
-    );
+    let target = Target {
+        sizes: Sizes { items, rows },
+        sector,
+        number,
+        generation,
+    };
+    let plan = Parts {
+        edits,
+        shares,
+        unrefs,
+        releases,
+        adds,
+    };
+    let a = apply::apply_plan(target, list, table, plan);
     tell(a, answer)
 }
