@@ -2,18 +2,18 @@
 use mathlib.Core.Path.{◌≡◌, refl, ap, ap₂, ◌∙◌, sym}
 use mathlib.Core.Bool.{Bool, true, false, ◌&&◌, not}
 use mathlib.Core.List.{List, ◌++◌}
-use Prim.Native.Nat.{ℕ, zero, suc, ◌*◌, ◌/◌, ◌<◌, ◌≤◌}
+use Prim.Native.Nat.{ℕ, zero, suc, ◌*◌, ◌/◌, ◌≤◌}
 use native.Mathlib.Omega.{arith}
 use lib.Dec.{leb}
 use lib.IntN.{ℤ, pos}
-use lib.ListN.{length, get_or, take, replicate, length-replicate, get_or-replicate}
+use lib.ListN.{length, take, replicate, length-replicate, get_or-replicate}
 use borrow.Author.Tests.{leb-true}
 use Rattle.std.specs.Prelude.{Ok, Err, count_by}
 use Rattle.records.specs.declared.refusal.Refusal.{Refusal}
 use Rattle.records.specs.Refusals.{number as refusal_number}
 use Rattle.records.specs.Stages.{unless, first, stage, every}
 use Rattle.records.proofs.Tests.{first-zero, unless-zero, both_left, both_right}
-use Rattle.item.specs.Items.{Fields, items, encode}
+use Rattle.item.specs.Items.{Fields, encode}
 use Rattle.table.specs.declared.Row.{Row}
 use Rattle.table.specs.Rows.{rows, table_kept, row_numbers}
 use Rattle.lists.specs.Lists.{list_kept, whole_sectors}
@@ -149,10 +149,14 @@ module _
     items_fit = leb-true (length items_then) (length list / 70) (rw (sym list_now) (both_left (leb (length rule_items) (length list / 70)) (leb (length rule_rows) (length table / 5)) roomy))
 
     pub rows_fit : (m.counts.rows ≤ length table / 5) × (nets ds old ≡ true) × (table_kept rows_then ≡ true) × (length rows_then ≤ length table / 5)
-    rows_fit =
-        (omega (arith, counted_rows, r.inside.tabled), ap (nets ds) (sym same_rows)
-        ∙ nets_fit q.edits.now q.adds.now rs ds gs missing p stands t.sector t.number t.generation (take (t.sizes.items * 70) list) hd hg
-        ∙ unless-zero (every (net_sound p) rs) 3 nets_due.0 (λ e. omega arith), ap table_kept (sym table_now) ∙ unless-zero (table_kept rule_rows) 3 last.0 (λ e. omega arith), leb-true (length rows_then) (length table / 5) (rw (sym table_now) (both_right (leb (length rule_items) (length list / 70)) (leb (length rule_rows) (length table / 5)) roomy)))
+    rows_fit = (
+      omega (arith, counted_rows, r.inside.tabled),
+      ap (nets ds) (sym same_rows)
+          ∙ nets_fit q.edits.now q.adds.now rs ds gs missing p stands t.sector t.number t.generation (take (t.sizes.items * 70) list) hd hg
+          ∙ unless-zero (every (net_sound p) rs) 3 nets_due.0 (λ e. omega arith),
+      ap table_kept (sym table_now) ∙ unless-zero (table_kept rule_rows) 3 last.0 (λ e. omega arith),
+      leb-true (length rows_then) (length table / 5) (rw (sym table_now) (both_right (leb (length rule_items) (length list / 70)) (leb (length rule_rows) (length table / 5)) roomy)),
+    )
 
     pub result_done : (a b : ℕ) (list' table' : List ℕ) → (a ≡ length items_then) × (list' ≡ laid encode items_then list) → (b ≡ length rows_then) × (table' ≡ laid row_numbers rows_then table) → MetApplyingWith (apply_to t list table p) (Ok (record { items = a; rows = b })) list list' table table'
     result_done a b list' table' l k =

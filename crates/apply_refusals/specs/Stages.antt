@@ -10,7 +10,7 @@ use Rattle.request.specs.Lent.{sector_sound}
 use Rattle.plan_def.specs.Plans.{Plan}
 use Rattle.apply_def.specs.Apply.{list_after, rows_after, row_missing, net_sound, edits_rise}
 use Rattle.plan_def.specs.ReadBack.{edits_in, adds_in}
-use Rattle.apply_def.specs.Lent.{Parts, items_in, rows_in, count_broken, parts_broken}
+use Rattle.apply_def.specs.Lent.{Parts, count_broken, parts_broken}
 use Rattle.apply_walk.specs.Checks.{items_now, result_sound}
 use Rattle.apply_counts.specs.Counts.{Counted, nets}
 use Rattle.apply_clear.specs.Clear.{adds_fit}

@@ -1,6 +1,6 @@
 // One call: the compiled operation on the volume's bytes, with as many places as it wants, and applying.
 use crate::outputs::Buffers;
-use apply::Sizes;
+use apply::{Parts, Sizes, Target};
 use records::refusal::Refusal;
 use request::{self, Numbers};
 use test_call::Operation as Ranged;
@@ -70,22 +70,24 @@ pub fn answer(
 
 // Applies a plan of these numbers to a file's list and to the table.
 pub fn applied(f: usize, n: Numbers, s: &mut State, out: &Buffers) -> Result<Sizes, Refusal> {
-    let (sector, items, generation) = (s.sector(), s.item_count(f), s.generation.wrapping_add(1));
+    let target = Target {
+        sizes: Sizes {
+            items: s.item_count(f),
+            rows: s.rows,
+        },
+        sector: s.sector(),
+        number: state::file_number(f),
+        generation: s.generation.wrapping_add(1),
+    };
+    let plan = Parts {
+        edits: out.edits(n),
+        shares: out.shares(n),
+        unrefs: out.unrefs(n),
+        releases: out.releases(n),
+        adds: out.adds(n),
+    };
     let Some(list) = s.lists.get_mut(f) else {
         return Err(Refusal::Broken);
     };
-    apply::apply_plan(
-        sector,
-        state::file_number(f),
-        generation,
-        list,
-        items,
-        &mut s.table,
-        s.rows,
-        out.edits(n),
-        out.shares(n),
-        out.unrefs(n),
-        out.releases(n),
-        out.adds(n),
-    )
+    apply::apply_plan(target, list, &mut s.table, plan)
 }

@@ -1,11 +1,10 @@
-use mathlib.Core.Path.{◌≡◌, refl, ap, sym, ◌∙◌}
+use mathlib.Core.Path.{◌≡◌, refl, ap}
 use Rattle.std.proofs.Common.{rules}
 use Rattle.std.specs.Prelude.{Err}
 use Rattle.table.specs.declared.Table.{Table}
 use Rattle.table.specs.Rows.{rows}
 use Rattle.apply.proofs.Accepted.{lent_facts, lent_rising, lent-sector, lent_rows}
 use Rattle.apply.proofs.Whole.{zeroed, result_refused, items_fit, rows_fit, result_done}
-use native.Mathlib.Omega.{arith}
 use Rattle.apply.proofs.apply_within.Goals as goal
 
 pub invariant_of-kept : goal.invariant_of-kept
