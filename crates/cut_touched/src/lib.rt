@@ -16,30 +16,21 @@ ghost use Rattle.plan_lines.specs.Lines.{Laid};
 ghost use Rattle.drop_chains.specs.Counts.{Countable};
 ghost use Rattle.drop_lines.specs.Dropped.{drops_in};
 ghost use Rattle.cut_splits.specs.Splits.{elsewhere};
-ghost use Rattle.cut_touched.specs.Parts.{TouchedPart, part};
+ghost use Rattle.cut_touched.specs.Parts.{TouchedPart};
 
-use cut_segment::{Running, RunningLeaves};
+use cut_segment::{Running, RunningLeaves, records_in};
 use drop_lines::Cut;
 pub use drop_lines::DropCounts;
-use item::RECORD;
 use records::refusal::Refusal;
 use ref_def::Leaves;
-use std::ops::Range;
 use table::Table;
-
-// Some records of a list, one behind the other.
-fn records_in<'a>(list: &'a [u8], found: &Range<usize>) -> &'a [u8]
-    requires { (found.now.start ≤ found.now.end) × (found.now.end ≤ length (items list.now)) }
-    ensures { items result.now ≡ part found.now.start found.now.end (items list.now) }
-{
-    &list[found.start * RECORD..found.end * RECORD]
-}
 
 // Those that the cut of [lo, hi) touches.
 fn touched_part<'a>(list: Running<'a>, lo: u64, hi: u64) -> &'a [u8]
     ensures { TouchedPart lo hi (items list.entry.records.now) (items result.now) }
 {
-    records_in(list.records, &list.touched(lo, hi))
+    let found = list.touched(lo, hi);
+    records_in(list.records, found.start, found.end)
 }
 
 // `cut_splits::splits_refusal` of a list whose records run one behind the other.
@@ -78,7 +69,7 @@ pub fn put_drops(
     ensures releases { Laid ref_numbers 2 at.releases (all_releases (rows table.entry.numbers.now) (drops_in k (items leaves.entry.list.records.now) leaves.entry.shared.now)) releases.old result.releases releases.new }
 {
     let found = leaves.list.touched(k.lo, k.hi);
-    let list = records_in(leaves.list.records, &found);
+    let list = records_in(leaves.list.records, found.start, found.end);
     let shared = &leaves.shared[found];
     drop_lines::put_drops(k, Leaves { list, shared }, table, unrefs, releases, at)
 }
