@@ -1,12 +1,12 @@
 -- The second half of a plan: places, room, and the outputs. Assumes nothing.
-use mathlib.Core.Path.{◌≡◌, refl, ap, ◌∙◌, sym}
+use mathlib.Core.Path.{◌≡◌, refl, ap, ap₂, ◌∙◌, sym}
 use mathlib.Core.Bool.{Bool, true}
 use mathlib.Core.List.{List, [], ◌∷◌, ◌++◌, map, flat_map}
 use Prim.Native.Nat.{ℕ, zero, suc, ◌+◌, ◌-◌, ◌*◌, ◌/◌, ◌≤◌}
 use native.Mathlib.Omega.{arith}
 use native.Mathlib.Nat.{zero-add, le-div_iff_mul-le}
 use lib.ListN.{length, get_or, take, drop, replicate, length-map, length-append, length-replicate}
-use Rattle.std.specs.Prelude.{Option, Some, None}
+use Rattle.std.specs.Prelude.{Option, Some, None, Ok, Err}
 use Rattle.records.specs.Stages.{unless, first, first_of}
 use Rattle.records.proofs.Lists.{every_true}
 use Rattle.records.proofs.Tests.{first-zero, unless-zero, first_last, first_stop, first_go}
@@ -15,7 +15,9 @@ use Rattle.table.specs.declared.Row.{Row}
 use Rattle.table.specs.Rows.{rows}
 use Rattle.request.specs.declared.Volume.{Volume}
 use Rattle.request.specs.declared.File.{File}
-use Rattle.request.specs.declared.Answer.TheVariants.{Planned, Refused}
+use Rattle.records.specs.declared.refusal.Refusal.{Refusal}
+use Rattle.records.specs.Refusals.{number}
+use Rattle.records.proofs.Refusals.{number-some}
 use Rattle.request.specs.Answers.{Outcome, plan, refused}
 use Rattle.cut_def.specs.Pieces.{items_of, insert_all}
 use Rattle.cut_def.specs.Edits.{Edit, edits}
@@ -43,13 +45,16 @@ use Rattle.change_def.proofs.Drafts.{numbers-sound}
 use Rattle.change_holes.specs.Walk.{wishes}
 use Rattle.change_places.specs.Wishes.{wanted_of}
 use Rattle.change_places.proofs.Keys.{placed_spans, sound_spans}
-use Rattle.change_rewrites.specs.Raw.{lent_ground}
+use Rattle.change_ground.specs.Lent.{items_in, rows_in}
+use Rattle.change_draft.specs.declared.asked.Asked.{Asked}
+use Rattle.change_draft.specs.Raw.{whole}
 use Rattle.change_segment.specs.declared.Parts.{Parts}
 use Rattle.change_segment.specs.Sides.{front_new, back_new, sides, one_if, anew_count, places_at}
 use Rattle.change_segment.proofs.Sides.{sides-count}
 use Rattle.change_lay.specs.declared.Counts.{Counts}
 use Rattle.change_lay.proofs.Outputs.{fitting, outputs-laid, met-refused}
-use Rattle.change_lay.specs.Laid.{Pieced, plan_at, after_at, edits_at, PlanLaid}
+use Rattle.change_lay.specs.Laid.{Pieced, ground_of, plan_at, after_at, new_pieces, edits_at, PlanLaid}
+use Rattle.change_segment.specs.declared.Places.{Places}
 use Rattle.change_draft.specs.declared.Needs.{Needs}
 use Rattle.change_range.specs.Raw.{Accepted, FinishWhy}
 use Rattle.change_draft.proofs.Filled.{pieced, edits_now, writes_now, shares_now, unrefs_now, releases_now}
@@ -105,12 +110,33 @@ module _ (n : Needs) (fs : List Fields) (rows : List Row) (ps : List ℕ) (rooms
   pub why-roomed : 0 ≡ unless (places_sound rows ps (map wanted_of (wishes n.extents fs))) 26 → (b : ℕ) → ((q : Plan) → numbers q ≡ n.numbers → b ≡ unless (room_for rooms q) 27) → FinishWhy n fs rows ps rooms b
   why-roomed pa b pb = λ q h. pb q (h (unless-zero (places_sound rows ps (map wanted_of (wishes n.extents fs))) 26 (sym pa) (λ e. omega arith))) ∙ sym (first_go _ _ (sym pa))
 
-module _ (v : Volume) (f : File) (c : RangeChange) (w : Fill) (p : Parts) (n : Needs) (list shared table ps : List ℕ) (ac : Accepted v f c w p n list shared table) where
+module _ (a : Asked) (n : Needs) (ps : List ℕ) (ac : Accepted a n) where
+  abbrev file : ℕ
+  file = a.begun.base.file.number
+
+  abbrev size : ℕ
+  size = a.begun.base.file.size
+
+  abbrev generation : ℕ
+  generation = a.begun.base.volume.generation
+
+  abbrev c : RangeChange
+  c = a.begun.range
+
+  abbrev p : Parts
+  p = a.begun.parts
+
+  abbrev fs : List Fields
+  fs = items_in a.begun.base
+
+  abbrev rs : List Row
+  rs = rows_in a.begun.base
+
   abbrev g' : Ground
-  g' = lent_ground v f list shared table
+  g' = ground_of a.begun
 
   abbrev d' : Change
-  d' = filled_of c w (items list)
+  d' = whole a
 
   abbrev ws : List Wanted
   ws = wanted g' d' piece_limit
@@ -118,61 +144,64 @@ module _ (v : Volume) (f : File) (c : RangeChange) (w : Fill) (p : Parts) (n : N
   abbrev q : Plan
   q = plan_of g' d' piece_limit ps
 
-  needed : ◌≡◌ {A = Drafted} (record { numbers = n.numbers; extents = wishes n.extents (items list) }) (record { numbers = numbers (plan_of g' d' piece_limit (replicate (length ws) 1)); extents = map stretch_for ws })
-  needed = plan-is _ _ (ac.needs ∙ sym (draft_passed v f c w p list shared table ac.none))
+  needed : ◌≡◌ {A = Drafted} (record { numbers = n.numbers; extents = wishes n.extents fs }) (record { numbers = numbers (plan_of g' d' piece_limit (replicate (length ws) 1)); extents = map stretch_for ws })
+  needed = plan-is _ _ (ac.needs ∙ sym (draft_passed a ac.none))
 
   -- the extents wanted are those of the walk
-  extents-told : map stretch_for ws ≡ wishes n.extents (items list)
+  extents-told : map stretch_for ws ≡ wishes n.extents fs
   extents-told = sym (ap (λ (d : Drafted). d.extents) needed)
 
-  wishes-many : length (wishes n.extents (items list)) ≡ length ws
+  wishes-many : length (wishes n.extents fs) ≡ length ws
   wishes-many = ap length (sym extents-told) ∙ length-map ws stretch_for
 
-  pub adds-many : length (wishes n.extents (items list)) ≡ n.numbers.adds
+  pub adds-many : length (wishes n.extents fs) ≡ n.numbers.adds
   adds-many =
       let e : n.numbers.adds ≡ length (placed (replicate (length ws) 1) ws) = ap (λ (d : Drafted). d.numbers.adds) needed in
       wishes-many ∙ sym (e ∙ placed-length (replicate (length ws) 1) ws (length-replicate (length ws) 1) ∙ length-replicate (length ws) 1)
 
   -- the plan's numbers are those of the draft, where the places are sound
-  counts : places_sound (rows table) ps ws ≡ true → numbers q ≡ n.numbers
+  counts : places_sound rs ps ws ≡ true → numbers q ≡ n.numbers
   counts e = numbers-sound g' d' piece_limit ps e ∙ sym (ap (λ (d : Drafted). d.numbers) needed)
 
-  sound-same : places_sound (rows table) ps ws ≡ places_sound (rows table) ps (map wanted_of (wishes n.extents (items list)))
-  sound-same = sound_spans ps ws (wishes n.extents (items list)) extents-told (rows table)
+  sound-same : places_sound rs ps ws ≡ places_sound rs ps (map wanted_of (wishes n.extents fs))
+  sound-same = sound_spans ps ws (wishes n.extents fs) extents-told rs
 
-  module _ (before : Outs) (why : ℕ) (told : FinishWhy n (items list) (rows table) ps (rooms_of before) why) where
-    why_is : why ≡ first (unless (places_sound (rows table) ps ws) 26) (unless (room_for (rooms_of before) q) 27)
+  module _ (before : Outs) (why : ℕ) (told : FinishWhy n fs rs ps (rooms_of before) why) where
+    why_is : why ≡ first (unless (places_sound rs ps ws) 26) (unless (room_for (rooms_of before) q) 27)
     why_is = told q (λ e. counts (sound-same ∙ e)) ∙ ap (λ (b : Bool). first (unless b 26) (unless (room_for (rooms_of before) q) 27)) (sym sound-same)
 
     outcome : changed g' d' piece_limit ps (rooms_of before) ≡ refused_or why (plan q)
     unfolding changed first_of
     outcome = rw (ac.none, why_is, first_last) (unfold first in refl)
 
-    pub finish_refused : (why ≡ 0 → ⊥) → MetWith f.number (changed g' d' piece_limit ps (rooms_of before)) (Refused why) before before
-    finish_refused z = met-refused f.number why (changed g' d' piece_limit ps (rooms_of before)) before (outcome ∙ refuses why z)
+    pub finish_refused : (r : Refusal) → why ≡ number r → MetWith file (changed g' d' piece_limit ps (rooms_of before)) (Err r) before before
+    finish_refused r e = met-refused file r (changed g' d' piece_limit ps (rooms_of before)) before (outcome ∙ refuses why (λ z. number-some r (sym e ∙ z)) ∙ ap refused e)
       where
         refuses : (x : ℕ) → (x ≡ 0 → ⊥) → refused_or x (plan q) ≡ refused x
         refuses zero z = absurd (z refl)
         refuses (suc x) z = unfold refused_or in refl
 
     module _ (z : why ≡ 0) where
-      pub places-sound : places_sound (rows table) ps ws ≡ true
-      places-sound = unless-zero _ 26 (first-zero (unless (places_sound (rows table) ps ws) 26) (unless (room_for (rooms_of before) q) 27) (sym why_is ∙ z)).0 (λ e. omega arith)
+      pub places-sound : places_sound rs ps ws ≡ true
+      places-sound = unless-zero _ 26 (first-zero (unless (places_sound rs ps ws) 26) (unless (room_for (rooms_of before) q) 27) (sym why_is ∙ z)).0 (λ e. omega arith)
 
       pub rooms_fit : room_for (rooms_of before) q ≡ true
-      rooms_fit = unless-zero _ 27 (first-zero (unless (places_sound (rows table) ps ws) 26) (unless (room_for (rooms_of before) q) 27) (sym why_is ∙ z)).1 (λ e. omega arith)
+      rooms_fit = unless-zero _ 27 (first-zero (unless (places_sound rs ps ws) 26) (unless (room_for (rooms_of before) q) 27) (sym why_is ∙ z)).1 (λ e. omega arith)
 
-      pub finish_planned : (after : Outs) → after ≡ left f.number (plan q) before → MetWith f.number (changed g' d' piece_limit ps (rooms_of before)) (Planned n.numbers) before after
+      pub finish_planned : (after : Outs) → after ≡ left file (plan q) before → MetWith file (changed g' d' piece_limit ps (rooms_of before)) (Ok (Some n.numbers)) before after
       finish_planned after e = rw (outcome, z, pass) (record { answer = ap plan (sym (counts places-sound)); outputs = e })
 
   -- ---- the writing
 
-  module _ (before : Outs) (sound : places_sound (rows table) ps ws ≡ true) (fits : room_for (rooms_of before) q ≡ true) where
+  module _ (before : Outs) (sound : places_sound rs ps ws ≡ true) (fits : room_for (rooms_of before) q ≡ true) where
     abbrev x : ℕ
     x = get_or ps 0 0
 
     abbrev y : ℕ
     y = get_or ps (one_if (front_new c p)) 0
+
+    abbrev at : Places
+    at = record { front = x; back = y }
 
     abbrev k : ℕ
     k = anew_count c p
@@ -187,13 +216,13 @@ module _ (v : Volume) (f : File) (c : RangeChange) (w : Fill) (p : Parts) (n : N
     others' = drop k ps
 
     places-many : length ps ≡ length ws
-    places-many = places_count (rows table) ps ws sound
+    places-many = places_count rs ps ws sound
 
-    pub wishes-places : length (wishes n.extents (items list)) ≡ length ps
+    pub wishes-places : length (wishes n.extents fs) ≡ length ps
     wishes-places = wishes-many ∙ sym places-many
 
     k-many : k ≡ length (sectors_wanted g' d' piece_limit)
-    k-many = sectors_many v f c w p list shared table ac.started.part
+    k-many = sectors_many a
 
     firsts : length first-places ≡ length (sectors_wanted g' d' piece_limit)
     firsts = sym first-count ∙ k-many
@@ -201,13 +230,13 @@ module _ (v : Volume) (f : File) (c : RangeChange) (w : Fill) (p : Parts) (n : N
     split : ps ≡ first-places ++ others'
     split = places-sides (front_new c p) (back_new c p) ps (omega (arith, places-many, k-many, length-append (sectors_wanted g' d' piece_limit) (pieces_wanted g' d' piece_limit)))
 
-    adds_are : q.adds ≡ placed ps (map wanted_of (wishes n.extents (items list)))
-    adds_are = placed_spans ps ws (wishes n.extents (items list)) extents-told
+    adds_are : q.adds ≡ placed ps (map wanted_of (wishes n.extents fs))
+    adds_are = placed_spans ps ws (wishes n.extents fs) extents-told
 
     adds-number : length q.adds ≡ length ps
     adds-number = placed-length ps ws places-many
 
-    module _ (m : ℕ) (adds' : List ℕ) (l : Laid add_numbers 3 0 (placed ps (map wanted_of (wishes n.extents (items list)))) before.adds m adds') where
+    module _ (m : ℕ) (adds' : List ℕ) (l : Laid add_numbers 3 0 (placed ps (map wanted_of (wishes n.extents fs))) before.adds m adds') where
       m_is : m ≡ length q.adds
       m_is = l.lines ∙ zero-add _ ∙ ap length (sym adds_are)
 
@@ -243,52 +272,50 @@ module _ (v : Volume) (f : File) (c : RangeChange) (w : Fill) (p : Parts) (n : N
           ∙ ap (λ (i : ℕ). drop i (placed (first-places ++ others') ws)) first-count
           ∙ placed-drop first-places others' (sectors_wanted g' d' piece_limit) (pieces_wanted g' d' piece_limit) firsts)
 
-      part-items : piece_items f.number (v.generation + 1) part ≡ new_items g' others' (pieces_wanted g' d' piece_limit)
-      part-items = ap (map (piece_item f.number (v.generation + 1))) part_read ∙ pieces_read g' others' (flat_map (prealloc_pieces piece_limit) d'.holes)
+      part-items : piece_items file (generation + 1) part ≡ new_items g' others' (pieces_wanted g' d' piece_limit)
+      part-items = ap (map (piece_item file (generation + 1))) part_read ∙ pieces_read g' others' (flat_map (prealloc_pieces piece_limit) d'.holes)
 
-      olds : items_before g' d' ≡ items list
-      olds = leaves-items (items list) shared ac.started.shares
+      olds : items_before g' d' ≡ fs
+      olds = leaves-items fs a.begun.base.leaves.shared.now a.begun.base.leaves.one_each
 
-      pieced_now : Pieced (items list) (items_of (after_at v f c p list shared table x y)) (piece_items f.number (v.generation + 1) part)
+      pieced_now : Pieced fs (items_of (after_at a.begun at)) (piece_items file (generation + 1) part)
       pieced_now =
-          let r = pieced f.size g' d' ac.fair first-places others' firsts in
+          let r = pieced size g' d' a.fair first-places others' firsts in
           record { rise = rw part-items r.rise; olds = rw part-items (rw olds at r.olds); news = rw part-items r.news }
 
       written :
           (r : Counts) (after : Outs)
-          → after.adds ≡ adds'
-          → PlanLaid f.number (plan_at v f c p list shared table x y) (edits_at v f c p list shared table x y part) r (outs before.edits before.shares before.unrefs before.releases [] before.writes) (outs after.edits after.shares after.unrefs after.releases [] after.writes)
-          → after ≡ left f.number (plan q) before
-      written r after ea h =
-          let e1 : edits_at v f c p list shared table x y part ≡ q.edits =
-          ap (λ (ys : List Fields). edits (items_before g' d') (insert_all ys (after_at v f c p list shared table x y))) part-items
-          ∙ sym (edits_now f.size g' d' ac.fair first-places others' firsts) ∙ ap (λ (l : List ℕ). (plan_of g' d' piece_limit l).edits) (sym split) in
-          let e6 : (plan_at v f c p list shared table x y).writes ≡ q.writes = sym (writes_now f.size g' d' ac.fair first-places others' firsts) ∙ ap (λ (l : List ℕ). (plan_of g' d' piece_limit l).writes) (sym split) in
-          let e2 : (plan_at v f c p list shared table x y).shares ≡ q.shares = sym (shares_now f.size g' d' ac.fair first-places others' firsts) in
-          let e3 : (plan_at v f c p list shared table x y).unrefs ≡ q.unrefs = sym (unrefs_now f.size g' d' ac.fair first-places others' firsts) in
-          let e4 : (plan_at v f c p list shared table x y).releases ≡ q.releases = sym (releases_now f.size g' d' ac.fair first-places others' firsts) in
-          outputs-laid f.number q before after fits
-          (h.edits.edits.output ∙ ap (λ (l : List Edit). lay (edit_bytes f.number) 71 0 l before.edits) e1)
+          → PlanLaid file (plan_at a.begun at) (edits_at a.begun at part) r (outs before.edits before.shares before.unrefs before.releases adds' before.writes) after
+          → after ≡ left file (plan q) before
+      written r after h =
+          let e1 : edits_at a.begun at part ≡ q.edits =
+          ap (λ (ys : List Fields). edits (items_before g' d') (insert_all ys (after_at a.begun at))) part-items
+          ∙ sym (edits_now size g' d' a.fair first-places others' firsts) ∙ ap (λ (l : List ℕ). (plan_of g' d' piece_limit l).edits) (sym split) in
+          let e6 : (plan_at a.begun at).writes ≡ q.writes = sym (writes_now size g' d' a.fair first-places others' firsts) ∙ ap (λ (l : List ℕ). (plan_of g' d' piece_limit l).writes) (sym split) in
+          let e2 : (plan_at a.begun at).shares ≡ q.shares = sym (shares_now size g' d' a.fair first-places others' firsts) in
+          let e3 : (plan_at a.begun at).unrefs ≡ q.unrefs = sym (unrefs_now size g' d' a.fair first-places others' firsts) in
+          let e4 : (plan_at a.begun at).releases ≡ q.releases = sym (releases_now size g' d' a.fair first-places others' firsts) in
+          outputs-laid file q before after fits
+          (h.edits.edits.output ∙ ap (λ (l : List Edit). lay (edit_bytes file) 71 0 l before.edits) e1)
           (h.refs.shares.output ∙ ap (λ (l : List Ref). lay ref_numbers 2 0 l before.shares) e2)
           (h.refs.unrefs.output ∙ ap (λ (l : List Ref). lay ref_numbers 2 0 l before.unrefs) e3)
           (h.refs.releases.output ∙ ap (λ (l : List Ref). lay ref_numbers 2 0 l before.releases) e4)
-          (ea ∙ adds-laid)
+          (h.adds ∙ adds-laid)
           (h.writes.output ∙ ap (λ (l : List Write). lay write_numbers 4 0 l before.writes) e6)
 
       -- the same for the places and the part that the code has
-      module _ (x' y' j n' : ℕ) (px : x' ≡ get_or ps 0 0) (pj : j ≡ one_if (front_new c p)) (py : y' ≡ get_or ps j 0) (pn : n' ≡ k) where
-        y_is : y' ≡ y
-        y_is = py ∙ ap (λ (i : ℕ). get_or ps i 0) pj
+      module _ (at' : Places) (j n' : ℕ) (px : at'.front ≡ get_or ps 0 0) (pj : j ≡ one_if (front_new c p)) (py : at'.back ≡ get_or ps j 0) (pn : n' ≡ k) where
+        at_is : at' ≡ at
+        at_is = ap₂ {C = Places} (λ (x : ℕ) (y : ℕ). record { front = x; back = y }) px (py ∙ ap (λ (i : ℕ). get_or ps i 0) pj)
 
         pub order-at : n' * 3 ≤ m * 3
         order-at = rw pn part-order
 
-        pub pieced_at : Pieced (items list) (items_of (after_at v f c p list shared table x' y')) (piece_items f.number (v.generation + 1) (take (m * 3 - n' * 3) (drop (n' * 3) adds')))
-        pieced_at = rw (pn, px, y_is) pieced_now
+        pub pieced_at : Pieced fs (items_of (after_at a.begun at')) (new_pieces a.begun (take (m * 3 - n' * 3) (drop (n' * 3) adds')))
+        pieced_at = rw (pn, at_is) pieced_now
 
         pub written_at :
             (r : Counts) (after : Outs)
-            → after.adds ≡ adds'
-            → PlanLaid f.number (plan_at v f c p list shared table x' y') (edits_at v f c p list shared table x' y' (take (m * 3 - n' * 3) (drop (n' * 3) adds'))) r (outs before.edits before.shares before.unrefs before.releases [] before.writes) (outs after.edits after.shares after.unrefs after.releases [] after.writes)
-            → after ≡ left f.number (plan q) before
-        written_at r after ea h = written r after ea (rw (pn, px, y_is) at h)
+            → PlanLaid file (plan_at a.begun at') (edits_at a.begun at' (take (m * 3 - n' * 3) (drop (n' * 3) adds'))) r (outs before.edits before.shares before.unrefs before.releases adds' before.writes) after
+            → after ≡ left file (plan q) before
+        written_at r after h = written r after (rw (pn, at_is) at h)

@@ -1,34 +1,26 @@
 -- For the code only: what the second half of a plan rests on, and its refusals, in the terms of the definitions.
 use Rattle.std.specs.Prelude.{true, Ok, List, map, ◌≡◌, ℕ}
-use Rattle.item.specs.Items.{Fields, items}
-use Rattle.request.specs.declared.Volume.{Volume}
-use Rattle.request.specs.declared.File.{File}
+use Rattle.item.specs.Items.{Fields}
 use Rattle.records.specs.Stages.{unless, first}
 use Rattle.table.specs.declared.Row.{Row}
 use Rattle.plan_def.specs.Plans.{Plan, numbers}
 use Rattle.plan_def.specs.Places.{places_sound}
 use Rattle.plan_def.specs.Outputs.{Rooms, room_for}
-use Rattle.change_def.specs.declared.RangeChange.{RangeChange}
-use Rattle.change_def.specs.declared.Fill.{Fill}
 use Rattle.change_def.specs.Changes.{change_refusal}
 use Rattle.change_def.specs.Drafts.{drafted}
-use Rattle.change_def.specs.Sweep.{filled_of}
 use Rattle.change_def.specs.Preallocs.{piece_limit}
-use Rattle.change_def.proofs.Fair.{Fair}
+use Rattle.change_ground.specs.Lent.{items_in}
 use Rattle.change_holes.specs.Walk.{wishes}
 use Rattle.change_places.specs.Wishes.{wanted_of}
-use Rattle.change_rewrites.specs.Raw.{lent_ground}
-use Rattle.change_segment.specs.declared.Parts.{Parts}
-use Rattle.change_lay.specs.Laid.{Started}
+use Rattle.change_lay.specs.Laid.{ground_of}
+use Rattle.change_draft.specs.declared.asked.Asked.{Asked}
 use Rattle.change_draft.specs.declared.Needs.{Needs}
-use Rattle.change_draft.specs.Raw.{draft_said}
+use Rattle.change_draft.specs.Raw.{draft_said, whole}
 
--- one that nothing refuses but places and room, and what it needs
-pub record Accepted (v : Volume) (f : File) (c : RangeChange) (w : Fill) (p : Parts) (n : Needs) (list bytes table : List ℕ) : Type 0 where
-  pub fair : Fair (lent_ground v f list bytes table) (filled_of c w (items list))
-  pub started : Started v f c p list bytes table
-  pub none : change_refusal (lent_ground v f list bytes table) (filled_of c w (items list)) ≡ 0
-  pub needs : draft_said (items list) (Ok n) ≡ drafted (lent_ground v f list bytes table) (filled_of c w (items list)) piece_limit
+-- a change that nothing refuses but places and room, and what it needs
+pub record Accepted (a : Asked) (n : Needs) : Type 0 where
+  pub none : change_refusal (ground_of a.begun) (whole a) ≡ 0
+  pub needs : draft_said (items_in a.begun.base) (Ok n) ≡ drafted (ground_of a.begun) (whole a) piece_limit
 
 -- refusals 26 and 27: of any plan with these numbers
 abbrev pub FinishWhy : Needs → List Fields → List Row → (places : List ℕ) → Rooms → ℕ → Type 0

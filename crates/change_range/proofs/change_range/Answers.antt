@@ -1,17 +1,24 @@
-use Rattle.change_draft.proofs.Drafting.{started, refused-told, planned-told}
+use mathlib.Core.Path.{◌≡◌, refl}
+use Rattle.std.specs.Prelude.{Err}
+use Rattle.std.proofs.Common.{rules}
+use Rattle.request.specs.Given.{Answer}
+use Rattle.plan_def.specs.Outputs.{outs_in}
 use Rattle.change_lay.proofs.Outputs.{met-refused}
-use Rattle.change_draft.specs.Raw.{draft_said}
-use Rattle.item.specs.Items.{items}
-use Rattle.change_rewrites.proofs.Holding.{sound-runs}
-use native.Mathlib.Omega.{arith}
-use mathlib.Core.Path.{◌∙◌, sym, ap}
+use Rattle.change_draft.specs.declared.asked.Asked.{Asked}
+use Rattle.change_draft.proofs.Drafting.{base_fair, refused-told, planned-told}
 use Rattle.change_range.proofs.change_range.Goals as goal
 
-pub parts_of-p-requires : goal.parts_of-p-requires
-parts_of-p-requires c = let a = c.args in let q = c.requires in (q.shares, sound-runs a.v a.f a.list.now a.shared.now a.table.now q.fair.sound q.shares)
+pub invariant_of-begun : goal.invariant_of-begun
+invariant_of-begun c = record { fair = base_fair c.args.g c.args.c c.args.w c.requires.fair; parting = c.parts_of-parts.ensures }
+
+pub returns-in_err-n-clause-met : goal.returns-in_err-n-clause-met
+returns-in_err-n-clause-met c =
+    let a : Asked = record { begun = record { base = c.args.g; range = c.args.c; parts = c.parts_of-parts.result; fair = base_fair c.args.g c.args.c c.args.w c.requires.fair; parting = c.parts_of-parts.ensures }; fill = c.args.w; fair = c.requires.fair; sized = c.requires.sized } in
+    let e = c.in_err-n in
+    let told : ◌≡◌ {A = Answer} c.from_residual.result (Err e.field-0.0) = search rules in
+    rw told (met-refused _ e.field-0.0 _ (outs_in c.args.out.now) (refused-told a _ e.ensures c.args.places.now _))
 
 pub finish_change-requires : goal.finish_change-requires
-finish_change-requires c = let a = c.args in let q = c.requires in let n = c.in-Ok.n in let d = ap (draft_said (items a.list.now)) (sym c.in-Ok.is) ∙ c.draft_change-draft.ensures in let z = planned-told a.v a.f a.c a.w c.parts_of-p.result a.list.now a.shared.now a.table.now n d in record { fair = q.fair; started = started a.v a.f a.c a.w c.parts_of-p.result a.list.now a.shared.now a.table.now q c.parts_of-p.ensures (omega (arith, c.well_formed.0)) z; none = z; needs = d }
-
-pub returns-in-Err : goal.returns-in-Err
-returns-in-Err c = let a = c.args in let d = ap (draft_said (items a.list.now)) (sym c.in-Err.is) ∙ c.draft_change-draft.ensures in rw c.number.ensures (met-refused _ _ _ _ (refused-told a.v a.f a.c a.w c.parts_of-p.result a.list.now a.shared.now a.table.now _ d _ _))
+finish_change-requires c =
+    let a : Asked = record { begun = record { base = c.args.g; range = c.args.c; parts = c.parts_of-parts.result; fair = base_fair c.args.g c.args.c c.args.w c.requires.fair; parting = c.parts_of-parts.ensures }; fill = c.args.w; fair = c.requires.fair; sized = c.requires.sized } in
+    record { none = planned-told a c.in_ok-n.n c.in_ok-n.ensures; needs = c.in_ok-n.ensures }

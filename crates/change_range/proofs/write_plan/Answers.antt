@@ -1,14 +1,15 @@
 use mathlib.Core.Path.{◌≡◌, refl}
 use mathlib.Core.Bool.{Bool}
 use mir.Val.{bool_byte}
+use native.Mathlib.Omega.{arith}
 use Prim.Native.Nat.{ℕ}
 use Rattle.std.specs.Prelude.{Option, Some, None, is_some}
+use Rattle.std.proofs.Common.{rules}
+use Rattle.plan_def.specs.Outputs.{outs_in}
 use Rattle.change_def.specs.declared.Rewrite.{Rewrite}
 use Rattle.change_segment.specs.Sides.{one_if}
-use Rattle.change_draft.proofs.Drafting.{passed, ends_now, anew-most}
+use Rattle.change_draft.proofs.Drafting.{passed}
 use Rattle.change_range.proofs.Finish.{wishes-places, order-at, part_fits, part-inside, pieced_at, written_at}
-use Rattle.plan_def.specs.Outputs.{outs}
-use native.Mathlib.Omega.{arith}
 use Rattle.change_range.proofs.write_plan.Goals as goal
 
 -- 1 if the front sector takes a new extent
@@ -19,29 +20,39 @@ front_counted o q b j po pb pj = rw (pj, pb, po) (go q)
     go (Some r) = refl
     go None = refl
 
-pub overflow_mul-from : goal.overflow_mul-from
-overflow_mul-from c = let a = c.args in omega (arith, c.sectors_anew-from.ensures, anew-most a.c a.p)
-
 pub put_adds-to-requires : goal.put_adds-to-requires
-put_adds-to-requires c = let a = c.args in let q = c.requires in (ends_now a.v a.f a.c a.w a.p a.list.now a.shared.now a.table.now q.0.fair q.0.started.shares, wishes-places a.v a.f a.c a.w a.p a.n a.list.now a.shared.now a.table.now a.places.now q.0 (outs a.edits.now a.shares.now a.unrefs.now a.releases.now a.adds.now a.writes.now) q.1 q.2)
+put_adds-to-requires c =
+    let q = c.requires in
+    rw (c.along-wanted.ensures.0, c.along-wanted.ensures.1) (wishes-places c.args.a c.args.n c.args.places.now q.accepted (outs_in c.args.out.now) q.placed q.roomed)
 
 pub overflow_mul-to : goal.overflow_mul-to
-overflow_mul-to c = let a = c.args in let q = c.requires in omega (arith, c.well_formed.1.1.1.1.1.1.1.1.1.1.1.1.1.1.0, part_fits a.v a.f a.c a.w a.p a.n a.list.now a.shared.now a.table.now a.places.now q.0 (outs a.edits.now a.shares.now a.unrefs.now a.releases.now a.adds.now a.writes.now) q.1 q.2 _ _ c.put_adds-to.ensures)
+overflow_mul-to c =
+    let q = c.requires in
+    let l = rw (c.along-wanted.ensures.0, c.along-wanted.ensures.1) at c.put_adds-to.ensures in
+    search (rules, part_fits c.args.a c.args.n c.args.places.now q.accepted (outs_in c.args.out.now) q.placed q.roomed _ _ l)
 
-pub offset_bounds-adds-from : goal.offset_bounds-adds-from
-offset_bounds-adds-from c = let a = c.args in omega (arith, c.sectors_anew-from.ensures, anew-most a.c a.p)
+pub invariant_of-started : goal.invariant_of-started
+invariant_of-started c =
+    let s = passed c.args.a c.requires.accepted.none in
+    let n = s.0 in
+    record { generation = omega (arith, n); written = s.1 }
 
-pub slice_bounds-lay_plan-count : goal.slice_bounds-lay_plan-count
-slice_bounds-lay_plan-count c = let a = c.args in let q = c.requires in omega (arith, order-at a.v a.f a.c a.w a.p a.n a.list.now a.shared.now a.table.now a.places.now q.0 (outs a.edits.now a.shares.now a.unrefs.now a.releases.now a.adds.now a.writes.now) q.1 q.2 _ _ c.put_adds-to.ensures _ _ _ _ c.place_at-x.ensures (front_counted _ _ _ _ c.front_new.ensures c.is_some-front.ensures c.from.ensures) c.place_at-y.ensures c.sectors_anew-from.ensures)
+pub lay_plan-requires-clause-inside : goal.lay_plan-requires-clause-inside
+lay_plan-requires-clause-inside c =
+    let q = c.requires in
+    let l = rw (c.along-wanted.ensures.0, c.along-wanted.ensures.1) at c.put_adds-to.ensures in (
+      order-at c.args.a c.args.n c.args.places.now q.accepted (outs_in c.args.out.now) q.placed q.roomed _ _ l (record { front = c.place_at.result; back = c.place_at-2.result }) _ _ c.place_at.ensures (front_counted _ _ _ _ c.front_new.ensures c.is_some-front.ensures c.from.ensures) c.place_at-2.ensures c.sectors_anew-from.ensures,
+      part-inside c.args.a c.args.n c.args.places.now q.accepted (outs_in c.args.out.now) q.placed q.roomed _ _ l,
+    )
 
-pub slice_bounds-lay_plan-start : goal.slice_bounds-lay_plan-start
-slice_bounds-lay_plan-start c = let a = c.args in let q = c.requires in order-at a.v a.f a.c a.w a.p a.n a.list.now a.shared.now a.table.now a.places.now q.0 (outs a.edits.now a.shares.now a.unrefs.now a.releases.now a.adds.now a.writes.now) q.1 q.2 _ _ c.put_adds-to.ensures _ _ _ _ c.place_at-x.ensures (front_counted _ _ _ _ c.front_new.ensures c.is_some-front.ensures c.from.ensures) c.place_at-y.ensures c.sectors_anew-from.ensures
+pub lay_plan-requires-clause-pieced : goal.lay_plan-requires-clause-pieced
+lay_plan-requires-clause-pieced c =
+    let q = c.requires in
+    let l = rw (c.along-wanted.ensures.0, c.along-wanted.ensures.1) at c.put_adds-to.ensures in
+    pieced_at c.args.a c.args.n c.args.places.now q.accepted (outs_in c.args.out.now) q.placed q.roomed _ _ l (record { front = c.place_at.result; back = c.place_at-2.result }) _ _ c.place_at.ensures (front_counted _ _ _ _ c.front_new.ensures c.is_some-front.ensures c.from.ensures) c.place_at-2.ensures c.sectors_anew-from.ensures
 
-pub slice_bounds-lay_plan-end : goal.slice_bounds-lay_plan-end
-slice_bounds-lay_plan-end c = let a = c.args in let q = c.requires in part-inside a.v a.f a.c a.w a.p a.n a.list.now a.shared.now a.table.now a.places.now q.0 (outs a.edits.now a.shares.now a.unrefs.now a.releases.now a.adds.now a.writes.now) q.1 q.2 _ _ c.put_adds-to.ensures
-
-pub lay_plan-requires : goal.lay_plan-requires
-lay_plan-requires c = let a = c.args in let q = c.requires in (q.0.started, (passed a.v a.f a.c a.w a.p a.list.now a.shared.now a.table.now q.0.none).1, pieced_at a.v a.f a.c a.w a.p a.n a.list.now a.shared.now a.table.now a.places.now q.0 (outs a.edits.now a.shares.now a.unrefs.now a.releases.now a.adds.now a.writes.now) q.1 q.2 _ _ c.put_adds-to.ensures _ _ _ _ c.place_at-x.ensures (front_counted _ _ _ _ c.front_new.ensures c.is_some-front.ensures c.from.ensures) c.place_at-y.ensures c.sectors_anew-from.ensures)
-
-pub returns : goal.returns
-returns c = let a = c.args in let q = c.requires in written_at a.v a.f a.c a.w a.p a.n a.list.now a.shared.now a.table.now a.places.now q.0 (outs a.edits.now a.shares.now a.unrefs.now a.releases.now a.adds.now a.writes.now) q.1 q.2 _ _ c.put_adds-to.ensures _ _ _ _ c.place_at-x.ensures (front_counted _ _ _ _ c.front_new.ensures c.is_some-front.ensures c.from.ensures) c.place_at-y.ensures c.sectors_anew-from.ensures c.lay_plan.result _ refl c.lay_plan.ensures
+pub returns-clause-left : goal.returns-clause-left
+returns-clause-left c =
+    let q = c.requires in
+    let l = rw (c.along-wanted.ensures.0, c.along-wanted.ensures.1) at c.put_adds-to.ensures in
+    written_at c.args.a c.args.n c.args.places.now q.accepted (outs_in c.args.out.now) q.placed q.roomed _ _ l (record { front = c.place_at.result; back = c.place_at-2.result }) _ _ c.place_at.ensures (front_counted _ _ _ _ c.front_new.ensures c.is_some-front.ensures c.from.ensures) c.place_at-2.ensures c.sectors_anew-from.ensures c.lay_plan.result _ c.lay_plan.ensures.laid
