@@ -2,10 +2,9 @@
 use mathlib.Core.Path.{◌≡◌, refl, ap, ◌∙◌, sym}
 use mathlib.Core.Bool.{Bool, true, false, cond, ◌&&◌}
 use mathlib.Core.List.{List, [], ◌∷◌, ◌++◌, map, append-nil}
-use Prim.Native.Nat.{ℕ, suc, ◌+◌, ◌≤◌, ◌<◌}
+use Prim.Native.Nat.{ℕ, suc, ◌+◌, ◌*◌, ◌≤◌, ◌<◌}
 use native.Mathlib.Omega.{arith}
 use native.Mathlib.Numerals.{add-one}
-use native.Mathlib.Nat.{zero-add}
 use lib.ListN.{length, get_or, take, drop, set}
 use lib.Seq.{take-suc-set, take-set-lt, drop-set-lt, drop-cons, get_or-take, length-take-le, take-take}
 use lib.Dec.{ltb}
@@ -17,6 +16,7 @@ use Rattle.cut_def.specs.Pieces.{Piece, built, kept, insert, insert_all}
 use Rattle.cut_def.specs.Raw.{replaced}
 use Rattle.cut_segment.specs.declared.Segment.{Segment}
 use Rattle.cut_segment.specs.Segments.{nothing, item_at, segment_of, pieces, leading, starts_by, starts_past, bounded, Good, Around, insert_item, Inserted}
+use Rattle.cut_segment.proofs.Buffer.{items-room}
 use Rattle.cut_segment.proofs.Cutting.{leading-most}
 
 -- ---- a buffer's records: l are its items, of which the first n count
@@ -50,12 +50,20 @@ insert_slide x (f ∷ xs) = go (starts_by x.key f) refl (insert_slide x xs)
 -- from what the calls give: l are the buffer's items before, l' after
 pub insert-told :
     (x : Fields) (l l' : List Fields) (n k : ℕ) → n ≤ length l
-    → k ≡ 0 + leading (starts_by x.key) (take n l)
+    → k ≡ leading (starts_by x.key) (take n l)
     → take (n + 1) l' ≡ take k l ++ x ∷ drop k (take n l)
     → take (n + 1) l' ≡ insert_item x (take n l)
 insert-told x l l' n k h e p =
     let q : k ≤ n = omega (arith, leading-most (starts_by x.key) (take n l), length-take-le n l h) in
-    p ∙ rw (← take-take k n l q) (rw (e, zero-add) (sym (insert_slide x (take n l))))
+    p ∙ rw (← take-take k n l q) (rw e (sym (insert_slide x (take n l))))
+
+-- from what the calls give
+pub slid : (x : Fields) (s : Segment) (seg : List ℕ) (k : ℕ) (seg' : List ℕ) → (s.count + 1) * 70 ≤ length seg → length seg' ≡ length seg
+    → k ≡ leading (starts_by x.key) (take s.count (items seg)) → take (s.count + 1) (items seg') ≡ take k (items seg) ++ x ∷ drop k (take s.count (items seg))
+    → Inserted x s seg (record { from = s.from; to = s.to; count = s.count + 1 }) seg'
+slid x s seg k seg' r l e p =
+    let n : s.count < length (items seg) = omega (arith, items-room (s.count + 1) seg r) in
+    record { from = refl; to = refl; count = refl; room = items-room (s.count + 1) seg' (omega arith); those = insert-told x (items seg) (items seg') s.count k (omega arith) e p }
 
 -- ---- the file's items
 
