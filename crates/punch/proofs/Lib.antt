@@ -1,3 +1,4 @@
-pub mod Starting
 pub mod Sectors
+pub mod Starting
+pub mod Passed
 pub mod Operating

@@ -1,29 +1,25 @@
 -- From the stages of a punch to its answer. Assumes nothing.
 use mathlib.Core.Path.{◌≡◌, refl, ap, ◌∙◌, sym}
-use mathlib.Core.Bool.{Bool, true, false, not}
 use mathlib.Core.List.{List}
 use mathlib.Core.Option.{none, some}
-use Prim.Native.Nat.{ℕ, zero, suc, ◌+◌, ◌<◌, ◌^◌}
+use Prim.Native.Nat.{ℕ, zero, suc, ◌+◌}
 use native.Mathlib.Omega.{arith}
-use lib.Dec.{eqb, leb, ltb}
-use lib.ListN.{length}
-use borrow.Author.Tests.{eqb-true, leb-true, ltb-true}
-use Rattle.plan_def.proofs.Outcomes.{two-refused}
-use Rattle.records.specs.Stages.{whenever, unless, first, first_of, stage, every}
-use Rattle.records.proofs.Tests.{both_left, first_assoc, first_last, first-zero, first_of_zero, unless-zero}
+use Rattle.std.specs.Prelude.{Option, None, Result, Ok, Err}
+use Rattle.records.specs.declared.refusal.Refusal.{Refusal}
+use Rattle.records.specs.Refusals.{number}
+use Rattle.records.proofs.Refusals.{number-some}
+use Rattle.records.specs.Stages.{first}
 use Rattle.item.specs.Items.{items}
 use Rattle.table.specs.Rows.{rows}
-use Rattle.lists.specs.Lists.{record_refusal}
-use Rattle.request.specs.declared.Volume.{Volume}
-use Rattle.request.specs.declared.File.{File}
 use Rattle.request.specs.declared.Range.{Range}
-use Rattle.request.specs.Lent.{lent, list_broken, table_broken}
-use Rattle.request.specs.Answers.{Outcome, nothing, refused}
-use Rattle.request.proofs.Stages.{Accepted, accepted}
-use Rattle.cut_segment.specs.Segments.{Runs}
-use Rattle.cut_segment.proofs.Segments.{kept-runs}
+use Rattle.request.specs.declared.Lent.{Lent}
+use Rattle.request.specs.declared.Numbers.{Numbers}
+use Rattle.request.specs.Lent.{list_broken, table_broken}
+use Rattle.request.specs.Answers.{Outcome, refused}
+use Rattle.ref_def.proofs.Drops.{leaves-items}
 use Rattle.plan_def.specs.Plans.{Plan, refused_or, or_nothing}
-use Rattle.plan_def.specs.Outputs.{Rooms}
+use Rattle.plan_def.specs.Outputs.{Outs, Rooms, rooms_of, MetWith}
+use Rattle.plan_def.proofs.Outcomes.{two-refused}
 use Rattle.change_def.specs.declared.RangeChange.{RangeChange}
 use Rattle.change_def.specs.declared.Fill.{Fill}
 use Rattle.change_def.specs.Preallocs.{Stretch, piece_limit}
@@ -31,12 +27,15 @@ use Rattle.change_def.specs.Rewrites.{ground_of}
 use Rattle.change_def.specs.Changes.{Change, changed}
 use Rattle.change_def.specs.Raw.{change_of}
 use Rattle.change_def.specs.Sweep.{filled_of}
+use Rattle.change_def.proofs.Fair.{Fair}
 use Rattle.change_def.proofs.Sweep.{punch_swept}
-use Rattle.change_draft.specs.Raw.{Asked}
+use Rattle.change_ground.specs.Lent.{ground, items_in}
+use Rattle.change_lay.proofs.Outputs.{met-refused, met-nothing}
 use Rattle.punch_def.specs.Punch.{plan_punch, range_refusal, punch, punch_lent}
-use Rattle.punch.specs.Raw.{range_lent}
-use Rattle.punch_def.proofs.Planned.{records-ranged, ground_items, ground_sound}
 use Rattle.punch_def.proofs.Fair.{asked, fair}
+use Rattle.punch.specs.declared.range.FileRange.{FileRange}
+use Rattle.punch.specs.Raw.{punch_plan_said}
+use Rattle.punch.specs.Passing.{range_in, Passing}
 
 -- a refusal, and what follows if there is none
 pub refuses : (x : ℕ) (o : Outcome Plan) → (x ≡ 0 → ⊥) → refused_or x o ≡ refused x
@@ -49,83 +48,55 @@ unfolding refused_or
 passes zero o z = refl
 passes (suc x) o z = absurd (omega (arith, z))
 
-module _ (v : Volume) (f : File) (r : Range) (list shared table : List ℕ) where
-  -- the stages as the code takes them
-  pub range_stages :
-      first (lent v f list shared table) (first (unless (not (eqb r.length 0)) 5) (first (unless (ltb (r.offset + r.length) (2 ^ 63)) 6) (stage record_refusal (items list))))
-      ≡ range_lent v f r list shared table
-  unfolding range_refusal first_of
-  range_stages = rw empty (simp (first_assoc, first_last))
-    where
-      empty : unless (not (eqb r.length 0)) 5 ≡ whenever (eqb r.length 0) 5
-      empty = go (eqb r.length 0)
-        where
-          go : (b : Bool) → unless (not b) 5 ≡ whenever b 5
-          go true = refl
-          go false = refl
+-- ---- the change of a range that passed
 
-  -- what passes them
-  pub record Passed : Type 0 where
-    pub accepted : Accepted v f (items list) shared (rows table)
-    pub limit : r.offset + r.length < 2 ^ 63
-    pub records : stage record_refusal (items list) ≡ 0
+module _ (x : FileRange) (c : RangeChange) (w : Fill) (pw : w ≡ record { from = 0; to = 0; size = x.ground.file.size }) where
+  -- it fills no hole
+  no-holes : filled_of c w (items_in x.ground) ≡ change_of c x.ground.file.size
+  no-holes = rw pw (ap (λ (hs : List Stretch). record { lo = c.lo; hi = c.hi; rewrites = (change_of c x.ground.file.size).rewrites; holes = hs; size = x.ground.file.size }) (punch_swept c.lo c.hi (items_in x.ground)))
 
-  pub passed : range_lent v f r list shared table ≡ 0 → Passed
-  unfolding range_refusal
-  passed h =
-      let z = first_of_zero _ (first-zero _ _ h).1 in
-      record {
-        accepted = accepted v f (items list) shared (rows table) z.0;
-        limit = ltb-true (r.offset + r.length) (2 ^ 63) (unless-zero (ltb (r.offset + r.length) (2 ^ 63)) 6 z.1.1.0 (λ e. omega arith));
-        records = z.1.1.1.0;
-      }
+  module _ (e : some (change_of c x.ground.file.size) ≡ plan_punch (items_in x.ground) x.ground.file.size x.ground.volume.sector x.start x.stop) where
+    -- and is fair
+    pub fair-now : Fair (ground x.ground) (filled_of c w (items_in x.ground))
+    fair-now =
+        rw no-holes
+        (fair (ground x.ground) (items_in x.ground) (leaves-items (items_in x.ground) x.ground.leaves.shared.now x.ground.leaves.one_each) x.ground.sound x.ground.file.size x.start x.stop (change_of c x.ground.file.size)
+        (asked (items_in x.ground) x.ground.file.size x.ground.volume.sector x.start x.stop (change_of c x.ground.file.size) (sym e)) x.limit)
 
-  pub shares-many : Passed → length shared ≡ length (items list)
-  shares-many p = eqb-true (length shared) (length (items list)) (both_left (eqb (length shared) (length (items list))) (every (λ (b : ℕ). leb b 1) shared) p.accepted.shares)
+-- ---- the answer
 
-  -- the records run one behind the other
-  pub runs_now : Passed → Runs 0 (items list)
-  runs_now p = kept-runs f.number (items list) p.accepted.kept (records-ranged (items list) p.records)
+module _ (l : Lent) (r : Range) (places : List ℕ) (before : Outs) where
+  abbrev whole : Outcome Plan
+  whole = punch_lent l.volume l.file r l.list.now l.shared.now l.table.now places (rooms_of before)
 
-  -- a change that fills no hole
-  pub no_holes : (c : RangeChange) (w : Fill) → w ≡ record { from = 0; to = 0; size = f.size } → filled_of c w (items list) ≡ change_of c f.size
-  no_holes c w e = rw e (ap (λ (hs : List Stretch). record { lo = c.lo; hi = c.hi; rewrites = (change_of c f.size).rewrites; holes = hs; size = f.size }) (punch_swept c.lo c.hi (items list)))
+  abbrev rest : Outcome Plan
+  rest =
+      or_nothing (plan_punch (items l.list.now) l.file.size l.volume.sector r.offset (r.offset + r.length))
+      (λ (c : Change). changed (ground_of l.volume l.file (items l.list.now) l.shared.now (rows l.table.now)) c piece_limit places (rooms_of before))
 
-  -- the change that is asked for is fair
-  pub asked_now : Passed → (c : RangeChange) (w : Fill) → w ≡ record { from = 0; to = 0; size = f.size } → some (change_of c f.size) ≡ plan_punch (items list) f.size v.sector r.offset (r.offset + r.length) → Asked v f c w list shared table
-  asked_now p c w pw e =
-      let a = p.accepted in
-      let g = ground_of v f (items list) shared (rows table) in
-      let s = ground_sound v f (items list) shared (rows table) a (records-ranged (items list) p.records) in
-      record {
-        fair =
-            rw (no_holes c w pw)
-            (fair g (items list) (ground_items v f (items list) shared (rows table) a) s f.size r.offset (r.offset + r.length) (change_of c f.size)
-            (asked (items list) f.size v.sector r.offset (r.offset + r.length) (change_of c f.size) (sym e)) p.limit);
-        shares = shares-many p;
-        sized = leb-true (length (items list)) 65536 a.sized;
-      }
+  stages : whole ≡ refused_or (range_in l r) rest
+  unfolding punch
+  stages = two-refused (first (list_broken l.list.now) (table_broken l.table.now)) (range_refusal l.volume l.file r (items l.list.now) l.shared.now (rows l.table.now)) rest
 
-  -- ---- the answer
+  pub punch-refused : (e : Refusal) → number e ≡ range_in l r → MetWith l.file.number whole (Err e) before before
+  punch-refused e n = met-refused l.file.number e whole before (stages ∙ rw (← n) (refuses (number e) rest (number-some e)))
 
-  module _ (places : List ℕ) (rooms : Rooms) where
-    abbrev rest : Outcome Plan
-    rest =
-        or_nothing (plan_punch (items list) f.size v.sector r.offset (r.offset + r.length))
-        (λ (c : Change). changed (ground_of v f (items list) shared (rows table)) c piece_limit places rooms)
+  module _ (x : FileRange) (q : Passing l r x) where
+    abbrev at : Option RangeChange → Outcome Plan
+    at o = or_nothing (punch_plan_said o x.ground.file.size) (λ (c : Change). changed (ground x.ground) c piece_limit places (rooms_of before))
 
-    whole : punch_lent v f r list shared table places rooms ≡ refused_or (range_lent v f r list shared table) rest
-    unfolding punch
-    whole = two-refused (first (list_broken list) (table_broken table)) (range_refusal v f r (items list) shared (rows table)) rest
+    -- the same by the range that passed
+    module _ (o : Option RangeChange) (e : punch_plan_said o x.ground.file.size ≡ plan_punch (items_in x.ground) x.ground.file.size x.ground.volume.sector x.start x.stop) where
+      passed : whole ≡ at o
+      passed = stages ∙ passes (range_in l r) rest q.passes ∙ rw (e, q.volume, q.file, q.list, q.shared, q.table, q.start, q.stop) refl
 
-    pub punch-refused : (why : ℕ) → why ≡ range_lent v f r list shared table → (why ≡ 0 → ⊥) → punch_lent v f r list shared table places rooms ≡ refused why
-    punch-refused why e z = whole ∙ rw (← e) (refuses why rest z)
-
-    pub punch-nothing : range_lent v f r list shared table ≡ 0 → none ≡ plan_punch (items list) f.size v.sector r.offset (r.offset + r.length) → punch_lent v f r list shared table places rooms ≡ nothing
-    punch-nothing z e = whole ∙ passes _ rest z ∙ rw (← e) refl
+    pub punch-nothing : none ≡ plan_punch (items_in x.ground) x.ground.file.size x.ground.volume.sector x.start x.stop → MetWith l.file.number whole (Ok None) before before
+    punch-nothing e = met-nothing l.file.number whole before (passed None e)
 
     pub punch-changed :
-        range_lent v f r list shared table ≡ 0 → (c : RangeChange) (w : Fill) → w ≡ record { from = 0; to = 0; size = f.size }
-        → some (change_of c f.size) ≡ plan_punch (items list) f.size v.sector r.offset (r.offset + r.length)
-        → punch_lent v f r list shared table places rooms ≡ changed (ground_of v f (items list) shared (rows table)) (filled_of c w (items list)) piece_limit places rooms
-    punch-changed z c w pw e = whole ∙ passes _ rest z ∙ rw (← e, no_holes c w pw) refl
+        (c : RangeChange) (w : Fill) → w ≡ record { from = 0; to = 0; size = x.ground.file.size }
+        → some (change_of c x.ground.file.size) ≡ plan_punch (items_in x.ground) x.ground.file.size x.ground.volume.sector x.start x.stop
+        → (a : Result (Option Numbers) Refusal) (after : Outs)
+        → MetWith x.ground.file.number (changed (ground x.ground) (filled_of c w (items_in x.ground)) piece_limit places (rooms_of before)) a before after
+        → MetWith l.file.number whole a before after
+    punch-changed c w pw e a after m = rw (passed (Rattle.std.specs.Prelude.Some c) e, ← no-holes x c w pw, ← q.file) m

@@ -1,5 +1,5 @@
 -- For the code only: what the structs and private functions of this crate say, in the terms of the definitions.
-use Rattle.std.specs.Prelude.{List, ℕ, Option, Some, None}
+use Rattle.std.specs.Prelude.{List, ℕ, Option, Some, None, Result, Ok, Err, ◌≡◌, ◌+◌}
 use Rattle.std.proofs.Math.Option as found
 use Rattle.records.specs.Stages.{first}
 use Rattle.item.specs.Items.{items}

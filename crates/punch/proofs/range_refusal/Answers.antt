@@ -1,20 +1,24 @@
-use Rattle.std.proofs.Common.{rules}
-use Rattle.records.specs.Stages.{first}
-use Rattle.punch.proofs.Operating.{range_stages}
+use Rattle.std.proofs.Common.{sym, arith}
+use Rattle.punch.proofs.Passed.{Facts, facts}
 use Rattle.punch.proofs.range_refusal.Goals as goal
 
-pub returns-in_err-lent_refusal : goal.returns-in_err-lent_refusal
-unfolding first
-returns-in_err-lent_refusal c = let a = c.args in rw (← range_stages a.v a.f a.r a.list.now a.shared.now a.table.now) (search rules)
+pub invariant_of-leaves : goal.invariant_of-leaves
+invariant_of-leaves c = let l = c.args.l in record { runs = (facts l.volume l.file c.args.r l.list.now l.shared.now l.table.now (sym c.in_ok-range_stages.ensures)).runs }
 
-pub returns-in_err-check : goal.returns-in_err-check
-unfolding first
-returns-in_err-check c = let a = c.args in rw (← range_stages a.v a.f a.r a.list.now a.shared.now a.table.now) (search rules)
+pub invariant_of-leaves-2 : goal.invariant_of-leaves-2
+invariant_of-leaves-2 c = let l = c.args.l in record { one_each = (facts l.volume l.file c.args.r l.list.now l.shared.now l.table.now (sym c.in_ok-range_stages.ensures)).«one-each» }
 
-pub returns-in_err-check-2 : goal.returns-in_err-check-2
-unfolding first
-returns-in_err-check-2 c = let a = c.args in rw (← range_stages a.v a.f a.r a.list.now a.shared.now a.table.now) (search rules)
+pub invariant_of-ground : goal.invariant_of-ground
+invariant_of-ground c = let l = c.args.l in record { kept = (facts l.volume l.file c.args.r l.list.now l.shared.now l.table.now (sym c.in_ok-range_stages.ensures)).«rows-kept» }
 
-pub returns : goal.returns
-unfolding first
-returns c = let a = c.args in rw (← range_stages a.v a.f a.r a.list.now a.shared.now a.table.now) (search rules)
+pub overflow_add-result : goal.overflow_add-result
+overflow_add-result c = let l = c.args.l in omega (arith, (facts l.volume l.file c.args.r l.list.now l.shared.now l.table.now (sym c.in_ok-range_stages.ensures)).limit)
+
+pub invariant_of-ground-2 : goal.invariant_of-ground-2
+invariant_of-ground-2 c = let l = c.args.l in record { sound = (facts l.volume l.file c.args.r l.list.now l.shared.now l.table.now (sym c.in_ok-range_stages.ensures)).sound }
+
+pub invariant_of-result : goal.invariant_of-result
+invariant_of-result c =
+    let l = c.args.l in
+    let f : Facts l.volume l.file c.args.r l.list.now l.shared.now l.table.now = facts l.volume l.file c.args.r l.list.now l.shared.now l.table.now (sym c.in_ok-range_stages.ensures) in
+    record { size_limit = f.size; some = f.some; limit = f.limit; sized = f.sized }
