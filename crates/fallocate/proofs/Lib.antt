@@ -1,4 +1,4 @@
 pub mod Sweep
+pub mod Sums
 pub mod Asking
-pub mod Refusing
 pub mod Operating

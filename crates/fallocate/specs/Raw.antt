@@ -1,17 +1,14 @@
 -- For the code only: what the structs and private functions of this crate say, in the terms of the definitions.
-use Rattle.std.specs.Prelude.{Bool, None, cond, List, ℕ, ◌+◌}
+use Rattle.std.specs.Prelude.{Bool, None, cond, ℕ, ◌+◌, leb}
 use Rattle.std.specs.Bool.{then_some}
-use Rattle.records.specs.Stages.{first}
+use Rattle.records.specs.Stages.{first, stage, unless}
 use Rattle.item.specs.Items.{items}
-use Rattle.table.specs.Rows.{rows}
-use Rattle.request.specs.declared.Volume.{Volume}
-use Rattle.request.specs.declared.File.{File}
-use Rattle.request.specs.declared.Range.{Range}
-use Rattle.request.specs.Lent.{list_broken, table_broken}
+use Rattle.change_def.specs.Preallocs.{sum_of}
 use Rattle.change_def.specs.Rounding.{round_down, round_up}
 use Rattle.change_def.specs.declared.RangeChange.{RangeChange}
 use Rattle.change_def.specs.declared.Fill.{Fill}
-use Rattle.fallocate_def.specs.Fallocate.{end_rewritten, new_size, fallocate_refusal}
+use Rattle.fallocate_def.specs.Fallocate.{end_rewritten, new_size, item_refusal, holes_to_allocate}
+use Rattle.punch.specs.declared.range.FileRange.{FileRange}
 
 -- the old end's sector, cut and rewritten if it has to be
 abbrev pub end_change : (size sector stop : ℕ) → RangeChange
@@ -27,6 +24,12 @@ end_change size sector stop =
 abbrev pub fill_of : Bool → (size sector offset stop : ℕ) → Fill
 fill_of keep size sector offset stop = record { from = round_down sector offset; to = round_up sector stop; size = new_size keep size stop }
 
--- all refusals from 1 to 12 from the bytes and numbers that are lent
-abbrev pub refusal_lent : Volume → File → Range → (list shared table : List ℕ) → ℕ
-refusal_lent v f r list shared table = first (first (list_broken list) (table_broken table)) (fallocate_refusal v f r (items list) shared (rows table))
+-- refusals 10 to 12 of a range that passed 1 to 9
+abbrev pub stages : FileRange → ℕ
+stages r =
+    let v = r.ground.volume in
+    let size = r.ground.file.size in
+    let fs = items r.ground.leaves.list.records.now in
+    first
+    (stage (item_refusal size (round_down v.sector r.start) (round_up v.sector r.stop)) fs)
+    (unless (leb (sum_of (holes_to_allocate size v.sector r.start r.stop fs)) v.total) 12)

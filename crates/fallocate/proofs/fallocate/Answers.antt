@@ -1,24 +1,16 @@
-use Rattle.fallocate.proofs.Operating.{fits, asked_now, fallocate-refused, fallocate-changed}
-use Rattle.change_lay.proofs.Outputs.{met-refused}
-use mathlib.Core.Path.{sym}
-use Rattle.records.proofs.Refusals.{number-some}
-use native.Mathlib.Omega.{arith}
+use Rattle.std.proofs.Common.{◌≡◌, Err, rules}
+use Rattle.plan_def.specs.Outputs.{outs_in}
+use Rattle.fallocate.proofs.Operating.{fair-now, range-refused, stages-refused, fallocate-changed}
 use Rattle.fallocate.proofs.fallocate.Goals as goal
 
-pub returns-in-Err : goal.returns-in-Err
-returns-in-Err c = let a = c.args in rw c.number.ensures (met-refused _ _ _ _ (fallocate-refused a.v a.f a.r a.keep a.list.now a.shared.now a.table.now _ _ _ c.in-Err.ensures (number-some c.in-Err.refusal)))
+pub returns-in_err-range-clause-met : goal.returns-in_err-range-clause-met
+returns-in_err-range-clause-met c = let e = c.in_err-range in let r : c.from_residual.result ≡ Err e.field-0.0 = search rules in rw r (range-refused c.args.l c.args.r c.args.keep c.args.places.now (outs_in c.args.out.now) _ e.ensures)
 
-pub overflow_add-stop : goal.overflow_add-stop
-overflow_add-stop c = let a = c.args in let q = fits a.v a.f a.r a.keep a.list.now a.shared.now a.table.now (sym c.in_default.ensures) in omega (arith, q.limit)
+pub returns-in_err-range_refusal-clause-met : goal.returns-in_err-range_refusal-clause-met
+returns-in_err-range_refusal-clause-met c = let e = c.in_err-range_refusal in let r : c.from_residual-in_err-range_refusal.result ≡ Err e.field-0.0 = search rules in rw r (stages-refused c.args.l c.args.r c.args.keep c.args.places.now (outs_in c.args.out.now) c.in_ok-range.range c.in_ok-range.ensures _ e.ensures)
 
-pub end_change-requires : goal.end_change-requires
-end_change-requires c = let a = c.args in let q = fits a.v a.f a.r a.keep a.list.now a.shared.now a.table.now (sym c.in_default.ensures) in (q.sector, q.size)
+pub change_range-requires-clause-fair : goal.change_range-requires-clause-fair
+change_range-requires-clause-fair c = fair-now c.args.keep c.in_ok-range.range _ _ c.end_change.ensures c.fill_of.ensures
 
-pub fill_of-requires : goal.fill_of-requires
-fill_of-requires c = let a = c.args in let q = fits a.v a.f a.r a.keep a.list.now a.shared.now a.table.now (sym c.in_default.ensures) in (q.sector, q.limit)
-
-pub change_range-requires : goal.change_range-requires
-change_range-requires c = let a = c.args in asked_now a.v a.f a.r a.keep a.list.now a.shared.now a.table.now (sym c.in_default.ensures) _ _ c.end_change.ensures c.fill_of.ensures
-
-pub returns : goal.returns
-returns c = let a = c.args in rw (fallocate-changed a.v a.f a.r a.keep a.list.now a.shared.now a.table.now _ _ (sym c.in_default.ensures) _ _ c.end_change.ensures c.fill_of.ensures) c.change_range.ensures
+pub returns-clause-met : goal.returns-clause-met
+returns-clause-met c = fallocate-changed c.args.l c.args.r c.args.keep c.args.places.now (outs_in c.args.out.now) c.in_ok-range.range c.in_ok-range.ensures c.in_ok-range_refusal.ensures _ _ c.end_change.ensures c.fill_of.ensures c.change_range.result _ c.change_range.ensures.met
