@@ -43,13 +43,21 @@ impl Buffers {
 
     // The outputs that a call is lent.
     pub fn lent(&mut self) -> Outputs<'_> {
+        let Buffers {
+            edits,
+            shares,
+            unrefs,
+            releases,
+            adds,
+            writes,
+        } = self;
         Outputs {
-            edits: &mut self.edits,
-            shares: &mut self.shares,
-            unrefs: &mut self.unrefs,
-            releases: &mut self.releases,
-            adds: &mut self.adds,
-            writes: &mut self.writes,
+            edits,
+            shares,
+            unrefs,
+            releases,
+            adds,
+            writes,
         }
     }
 

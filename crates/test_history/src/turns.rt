@@ -111,7 +111,10 @@ fn made(
         }
         Err(refusal) => {
             counts.refusals = counts.refusals.wrapping_add(1);
-            if let Some(count) = counts.by_number.get_mut((refusal.number() as usize).wrapping_sub(1)) {
+            if let Some(count) = counts
+                .by_number
+                .get_mut((refusal.number() as usize).wrapping_sub(1))
+            {
                 *count = count.wrapping_add(1);
             }
             check(out.is_past_kept(NO_LINES), Claim::PastPlan)?;
