@@ -16,6 +16,7 @@ ghost use Rattle.fallocate.specs.Raw.{end_change, fill_of, stages};
 
 use change_def::{Fill, RangeChange, Rewrite};
 use change_holes::{Bounds, NewExtents};
+use change_sector::Sector;
 use item::{Item, Kind};
 use plan_def::Outputs;
 use punch::FileRange;
@@ -45,7 +46,7 @@ fn end_change(r: FileRange) -> RangeChange
             back: None,
         };
     }
-    let sector = r.sector();
+    let sector: Sector = r.sector();
     let start = sector.round_down(r.ground.file.size);
     let end = start + sector.bytes;
     RangeChange {
@@ -64,7 +65,7 @@ fn end_change(r: FileRange) -> RangeChange
 fn fill_of(keep: bool, r: FileRange) -> Fill
     ensures { result ≡ fill_of keep r.entry.ground.file.size r.entry.ground.volume.sector r.entry.start r.entry.stop }
 {
-    let sector = r.sector();
+    let sector: Sector = r.sector();
     let size = r.ground.file.size;
     Fill {
         from: sector.round_down(r.start),
