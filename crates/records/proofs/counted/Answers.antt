@@ -1,9 +1,0 @@
-use native.Mathlib.Nat.{add-zero}
-use mathlib.Core.Path.{refl}
-use Rattle.records.proofs.counted.Goals as goal
-
-pub returns-then-b : goal.returns-then-b
-returns-then-b c = rw c.if-b.true refl
-
-pub returns-else-b : goal.returns-else-b
-returns-else-b c = rw (c.if-b.false, add-zero) refl
