@@ -39,7 +39,7 @@ pub fn rewrites_refusal(g: Ground, c: RangeChange) -> Result<(), Refusal>
 
 // Refusals 14 and 15 of the shares after the joins: of the references of extents written in place that there are more of
 // after the change than before. They are at most 4, as the items that are made.
-pub fn shares_refusal(b: Begun) -> Result<(), Refusal>
+fn shares_refusal(b: Begun) -> Result<(), Refusal>
     requires { b.base.volume.generation + 1 < 2 ^ 64 }
     ensures { why result ≡ stage (λ (q : Ref). one_more_reference q.start (rows_in b.entry.base)) (shares_compared (ground_of b.entry) (change_in b.entry)) }
 {

@@ -3,14 +3,11 @@ use Rattle.std.specs.Prelude.{List, Option, Some, None, ℕ, ◌+◌, ◌<◌, �
 use Rattle.std.specs.Option.{ForSome}
 use Rattle.std.proofs.Math.Option as maybe
 use Rattle.std.proofs.Math.Option.{none, some}
-use Rattle.item.specs.Items.{Fields, fields, items, written_in_place}
-use Rattle.table.specs.Rows.{rows}
-use Rattle.request.specs.declared.Volume.{Volume}
-use Rattle.request.specs.declared.File.{File}
+use Rattle.item.specs.Items.{Fields, fields, written_in_place}
 use Rattle.ref_def.specs.Drops.{InLeaf}
 use Rattle.plan_def.specs.Plans.{Write}
 use Rattle.change_def.specs.declared.Rewrite.{Rewrite}
-use Rattle.change_def.specs.Rewrites.{Ground, ground_of, when_held, preallocated_in, position_of, write_in_place}
+use Rattle.change_def.specs.Rewrites.{when_held, preallocated_in, position_of, write_in_place}
 use Rattle.change_rewrites.specs.declared.Holder.{Holder}
 use Rattle.change_rewrites.specs.declared.in_place.InPlace.{InPlace}
 
@@ -31,10 +28,6 @@ in_place_of hs (Some r) = when_held (preallocated_in hs r) none (λ (h : InLeaf)
 abbrev pub said_in_place : Option InPlace → maybe.Option (Rewrite × InLeaf)
 said_in_place None = none
 said_in_place (Some w) = some (w.rewrite, holder_leaf w.holder)
-
--- what a change goes by, from what is lent
-abbrev pub lent_ground : Volume → File → (list shared table : List ℕ) → Ground
-lent_ground v f list shared table = ground_of v f (items list) shared (rows table)
 
 -- ---- a sector that is written in place
 
