@@ -1,4 +1,4 @@
--- Refusals 1 to 4 of what a call is lent, as the code has it.
+-- For the code only: refusals 1 to 4 of what a call is lent, as the code has it.
 use Rattle.std.specs.Prelude.{Bool, List, ℕ}
 use Rattle.request.specs.declared.File.{File}
 use Rattle.request.specs.declared.Lent.{Lent}
