@@ -13,7 +13,7 @@ use Rattle.read_order.specs.Numbers.{numbers}
 use Rattle.read_order.specs.declared.Read.{Read}
 use Rattle.read_order.specs.declared.Request.{Request}
 use Rattle.read_order.specs.declared.Phase.TheVariants as Phases
-use Rattle.read_store.specs.Storing.{Buffers}
+use Rattle.read_store.specs.Buffers.{Buffers}
 
 abbrev pub range_of : Asked → Range
 range_of a = record { offset = a.from; length = a.length }

@@ -31,7 +31,8 @@ use Rattle.read_order.specs.Numbers.{numbers}
 use Rattle.read_order.specs.Taking.{Numbers}
 use Rattle.read_order.specs.Run.{Reading}
 use Rattle.read_order.specs.Taking.{fault}
-use Rattle.read_store.specs.Storing.{alone, Buffers, Stored}
+use Rattle.read_store.specs.Buffers.{Buffers}
+use Rattle.read_store.specs.Storing.{alone, Stored}
 use Rattle.read_input.specs.Input.{read_input}
 use Rattle.extplan_operate.specs.Operations.{list_in, source_in, shared_in, table_in, places_in, operation_in, LieIn, asking}
 use Rattle.extplan_reply.specs.Raw.{Roomy}

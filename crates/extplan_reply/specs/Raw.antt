@@ -1,7 +1,7 @@
 -- For the code only: buffers that hold all that an input can say.
 use Rattle.std.specs.Prelude.{ℕ, ◌*◌, ◌≤◌, length}
 use Rattle.plan_def.specs.Outputs.{Outs, rooms_of}
-use Rattle.read_store.specs.Storing.{Buffers}
+use Rattle.read_store.specs.Buffers.{Buffers}
 use Rattle.plan_bounds.specs.Ample.{most_records, most_places, Ample}
 
 -- "(extent)" and its line's end are 9 bytes

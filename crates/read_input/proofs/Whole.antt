@@ -15,7 +15,8 @@ use Rattle.read_order.specs.Numbers.{phase_number}
 use Rattle.read_order.specs.Order.{next}
 use Rattle.read_order.specs.Taking.{Numbers, begin, taken}
 use Rattle.read_order.specs.Few.{Few}
-use Rattle.read_store.specs.Storing.{Buffers, Took, Filled, Stored}
+use Rattle.read_store.specs.Buffers.{Buffers}
+use Rattle.read_store.specs.Storing.{Took, Filled, Stored}
 use Rattle.read_store.proofs.Runs.{Going, going_first, going-turn, going_done, going_fault, fault_took, fault-phase, few-first, few-less, few-turn}
 use Rattle.std.specs.Prelude.{Result, Ok, Err, IsErrAnd}
 use Rattle.read_order.specs.Run.{Reading}

@@ -4,7 +4,8 @@ use Rattle.read_order.specs.declared.Read.{Read}
 use Rattle.read_order.specs.Numbers.{numbers, phase_number}
 use Rattle.read_order.specs.Order.{next}
 use Rattle.read_order.specs.Run.{Reading}
-use Rattle.read_store.specs.Storing.{Buffers, Took, Filled, Stored}
+use Rattle.read_store.specs.Buffers.{Buffers}
+use Rattle.read_store.specs.Storing.{Took, Filled, Stored}
 use Rattle.read_input.specs.Input.{kind_of, values_of}
 
 abbrev pub TakesLine : Read → List ℕ → Buffers → Result Read ℕ → Buffers → Type 0

@@ -20,7 +20,8 @@ use Rattle.read_order.specs.Taking.{Numbers, comes, begin, taken_to, taken, item
 use Rattle.read_order.specs.Run.{after, along, reading_of}
 use Rattle.read_order.specs.Few.{Few}
 use Rattle.read_order.proofs.Faults.{next-none}
-use Rattle.read_store.specs.Storing.{alone, Buffers, Took, Filled, Stored}
+use Rattle.read_store.specs.Buffers.{Buffers}
+use Rattle.read_store.specs.Storing.{alone, Took, Filled, Stored}
 
 -- ---- counts
 

@@ -1,7 +1,7 @@
 -- For the code only: what the buffers of an input hold.
 use Rattle.std.specs.Prelude.{◌≡◌}
 use Rattle.read_store.specs.declared.Store.{Store}
-use Rattle.read_store.specs.Storing.{Buffers, buffers}
+use Rattle.read_store.specs.Buffers.{Buffers, buffers}
 
 abbrev pub buffers_in : Store → Buffers
 buffers_in s = buffers s.items.now s.shared.now s.table.now s.places.now

@@ -11,20 +11,11 @@ use Rattle.read_order.specs.Numbers.{numbers, phase_number}
 use Rattle.read_order.specs.Order.{next}
 use Rattle.read_order.specs.Run.{Reading}
 use Rattle.read_order.specs.Taking.{Numbers, taken, items_in, shared_in, rows_in, places_in}
+use Rattle.read_store.specs.Buffers.{Buffers}
 
 -- a place as its number
 abbrev pub alone : ℕ → List ℕ
 alone v = v ∷ []
-
--- the four buffers
-pub record Buffers : Type 0 where
-  pub items : List ℕ
-  pub shared : List ℕ
-  pub table : List ℕ
-  pub places : List ℕ
-
-abbrev pub buffers : (items shared table places : List ℕ) → Buffers
-buffers items shared table places = record { items = items; shared = shared; table = table; places = places }
 
 -- what a line adds stands behind what was stored before it
 pub record Kept (r : Numbers) (kind : ℕ) (v : List ℕ) (b b' : Buffers) : Type 0 where
