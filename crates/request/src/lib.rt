@@ -126,12 +126,7 @@ pub fn lent_refusal(l: Lent) -> Result<(), Refusal>
 }
 
 // Refusals 1 to 4 of what a clone is lent, its destination first; `own` says that the source is the destination itself.
-pub fn lent_refusal2(
-    l: Lent,
-    src: File,
-    own: bool,
-    source: &[u8],
-) -> Result<(), Refusal>
+pub fn lent_refusal2(l: Lent, src: File, own: bool, source: &[u8]) -> Result<(), Refusal>
     ensures { why result ≡ lent2_in l.entry src own source.now }
 {
     lists::list_size_refusal(source)?;
