@@ -28,7 +28,8 @@ use Rattle.read_order.specs.declared.Phase.TheVariants.{Nothing, Volume, File, S
 use Rattle.read_order.specs.Numbers.{numbers, phase_number}
 use Rattle.read_order.specs.Order.{next}
 use Rattle.read_order.specs.Taking.{Numbers, item_of, shared_of, place_of, holder, taken, taken_to, items_in, shared_in, rows_in, places_in}
-use Rattle.read_store.specs.Storing.{alone, buffers, Kept}
+use Rattle.read_store.specs.Buffers.{buffers}
+use Rattle.read_store.specs.Storing.{alone, Kept}
 
 module _ (r : Numbers) (v : List ℕ) (is ss ts ps : List ℕ) where
   pub kept-item : (is' ss' : List ℕ) → next r.phase 3 ≢ 0 → (file : ℕ) → file ≡ holder r (next r.phase 3) → is' ≡ lay encode 70 r.stored (item_of file v ∷ []) is → ss' ≡ lay byte 1 r.stored (shared_of v ∷ []) ss
