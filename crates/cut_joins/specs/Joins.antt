@@ -69,12 +69,6 @@ pub record Joining (generation sector : ℕ) (list : List ℕ) (s : Segment) (se
 
 -- ---- of a list of which a segment is made anew
 
-abbrev pub JoinedBehind : (generation k : ℕ) → Making → Making → Type 0
-JoinedBehind generation k m m' = Behind generation m.list.records.now m.segment m.buffer.now k m'.segment m'.buffer.now
-
-abbrev pub JoinedBefore : (generation k : ℕ) → Making → Making → Type 0
-JoinedBefore generation k m m' = Before generation m.list.records.now m.segment m.buffer.now k m'.segment m'.buffer.now
-
 abbrev pub JoinedAround : (generation sector : ℕ) → Making → Making → Type 0
 JoinedAround generation sector m m' = Joining generation sector m.list.records.now m.segment m.buffer.now m'.segment m'.buffer.now
 

@@ -10,7 +10,7 @@ ghost use Rattle.records.specs.Lent.{old, new};
 ghost use Rattle.records.specs.Select.{only};
 ghost use Rattle.item.specs.Items.{Fields, fields, items, end};
 ghost use Rattle.cut_def.specs.Cuts.{front, back};
-ghost use Rattle.cut_segment.specs.Segments.{item_at, Added, leading, ends_by, starts_by, Leads, Answers, Runs, runs_prop, Touching, Cutting};
+ghost use Rattle.cut_segment.specs.Segments.{item_at, Added, leading, ends_by, starts_by, Leads, Answers, Runs, runs_prop, Touching, Cutting, Inserted};
 
 use item::{Item, RECORD};
 pub use making::Making;
@@ -133,7 +133,7 @@ fn leading<P: Fn(Item) -> bool>(list: &[u8], passes: P) -> usize
 }
 
 // The number of the first of n records, from `start` on, that starts past a key; n where there is none.
-fn starting_by(list: &[u8], start: usize, n: usize, key: u64) -> usize
+pub fn starting_by(list: &[u8], start: usize, n: usize, key: u64) -> usize
     requires { (start ≤ n) × (n ≤ length (items list.now)) }
     ensures { result ≡ start + leading (starts_by key) (drop start (take n (items list.now))) }
 {
@@ -196,4 +196,17 @@ fn slide(seg: &mut [u8], k: usize, n: usize, item: Item)
 {
     put_record(seg, n, item);
     seg[k * RECORD..(n + 1) * RECORD].rotate_right(RECORD);
+}
+
+// An item put among a segment's, at its key: any item, and a segment of any list.
+pub fn insert_item(seg: &mut [u8], s: Segment, item: Item) -> Segment
+    requires { (s.count + 1) * 70 ≤ length seg.old }
+    ensures { Inserted (fields item) s seg.old result seg.new }
+{
+    let k = starting_by(seg, 0, s.count, item.key);
+    slide(seg, k, s.count, item);
+    Segment {
+        count: s.count + 1,
+        ..s
+    }
 }

@@ -4,7 +4,7 @@ ghost use Rattle.std.specs.Prelude.{◌≡◌, true, ◌+◌, ◌*◌, ◌<◌, 
 ghost use Rattle.item.specs.Items.{fields};
 ghost use Rattle.cut_segment.specs.Segments.{item_at, segment_of, leading, starts_by, bounded, Good};
 
-use crate::{Remade, Running, Segment, record_at, slide, starting_by};
+use crate::{Remade, Running, Segment, insert_item, record_at, starting_by};
 use item::Item;
 
 // As `Remade`, but that the buffer can be written.
@@ -40,13 +40,7 @@ impl<'a> Making<'a> {
         ensures put { PutIn (fields item) self.old self.new }
         ensures stays { Stays self.old self.new }
     {
-        let s = self.segment;
-        let k = self.started_by(item.key);
-        slide(self.buffer, k, s.count, item);
-        self.segment = Segment {
-            count: s.count + 1,
-            ..s
-        };
+        self.segment = insert_item(self.buffer, self.segment, item);
     }
 
     // What is made, to be read.

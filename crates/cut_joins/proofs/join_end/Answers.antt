@@ -8,29 +8,22 @@ use mathlib.Core.Path.{◌∙◌, ap}
 use native.Mathlib.Omega.{arith}
 use Rattle.cut_joins.proofs.join_end.Goals as goal
 
-pub returns-then-s-list-clause-joined : goal.returns-then-s-list-clause-joined
-returns-then-s-list-clause-joined c = let m = c.args.m.now in end_none _ _ _ _ _ m.good c.requires c.if-s-list.true
+pub returns-then-s-list : goal.returns-then-s-list
+returns-then-s-list c = end_none _ _ _ _ _ c.requires.0 c.requires.1 c.if-s-list.true
 
-pub record_at-requires : goal.record_at-requires
-record_at-requires c = let m = c.args.m.now in omega (arith, m.good.inside, items-length m.list.records.now)
+pub record_at-requires-2 : goal.record_at-requires-2
+record_at-requires-2 c = let a = c.args in omega (arith, c.requires.0.inside, items-length a.list.now)
 
 pub joined-requires : goal.joined-requires
-joined-requires c = let m = c.args.m.now in bounded_of (items m.list.records.now) _ _ m.good.sound (omega (arith, m.good.inside, items-length m.list.records.now)) c.record_at.ensures
+joined-requires c = let g = c.requires.0 in bounded_of (items c.args.list.now) _ _ g.sound (omega (arith, g.inside, items-length c.args.list.now)) c.record_at-2.ensures
 
-pub overflow_add-m : goal.overflow_add-m
-overflow_add-m c = let m = c.args.m.now in omega (arith, m.good.inside, items-length m.list.records.now, c.if-s-list.false, c.ranges, c.well_formed)
+pub overflow_add-result : goal.overflow_add-result
+overflow_add-result c = omega (arith, c.requires.0.inside, items-length c.args.list.now, c.if-s-list.false, c.ranges, c.well_formed)
 
-pub invariant_of-m : goal.invariant_of-m
-invariant_of-m c =
-    let m = c.args.m.now in
+pub returns : goal.returns
+returns c =
+    let a = c.args in
+    let g = c.requires.0 in
     let j = c.joined.ensures.there _ c.in-Some.is in
-    let lt : m.segment.to < length (items m.list.records.now) = omega (arith, m.good.inside, items-length m.list.records.now, c.if-s-list.false) in
-    let b = end-yes c.args.generation _ _ _ _ m.good c.requires _ _ c.item.ensures c.record_at.ensures lt c.put_record.new.seg j.0 (c.put_record.ensures ∙ ap (λ (f : Fields). set (items m.buffer.now) c.args.k f) j.1) in
-    record { good = b.good }
-
-pub returns-clause-joined : goal.returns-clause-joined
-returns-clause-joined c =
-    let m = c.args.m.now in
-    let j = c.joined.ensures.there _ c.in-Some.is in
-    let lt : m.segment.to < length (items m.list.records.now) = omega (arith, m.good.inside, items-length m.list.records.now, c.if-s-list.false) in
-    end-yes _ _ _ _ _ m.good c.requires _ _ c.item.ensures c.record_at.ensures lt _ j.0 (c.put_record.ensures ∙ ap (λ (f : Fields). set (items m.buffer.now) c.args.k f) j.1)
+    let lt : a.s.to < length (items a.list.now) = omega (arith, g.inside, items-length a.list.now, c.if-s-list.false) in
+    end-yes _ _ _ _ _ g c.requires.1 _ _ c.record_at.ensures c.record_at-2.ensures lt _ j.0 (c.put_record.ensures ∙ ap (λ (f : Fields). set (items a.seg.now) a.k f) j.1)
