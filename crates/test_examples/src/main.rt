@@ -10,8 +10,13 @@ mod punches;
 
 use std::io;
 
-fn main(rt: HostRuntime) -> io::Result<()> {
-    punches::all(&rt)?;
-    fallocates::all(&rt)?;
-    clones::all(&rt)
+fn all(rt: &impl Print) -> io::Result<()> {
+    punches::all(rt)?;
+    fallocates::all(rt)?;
+    clones::all(rt)
+}
+
+// What is printed is compared, so a write that fails is told by what is missing, and by no status.
+fn main(rt: HostRuntime) {
+    let _ = all(&rt);
 }

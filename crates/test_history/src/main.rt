@@ -90,7 +90,7 @@ fn run_round(seed: &mut u64, s: &mut State, counts: &mut Counts, round: u64) -> 
     Ok(())
 }
 
-fn main(rt: HostRuntime) -> io::Result<()> {
+fn run_history(rt: &impl Print) -> io::Result<()> {
     let mut seed: u64 = 88172645463325252;
     let mut s = State {
         generation: 7,
@@ -103,12 +103,17 @@ fn main(rt: HostRuntime) -> io::Result<()> {
         table: [0; TABLE],
     };
     let mut counts = Counts::new();
-    println!(&rt; "round sector applied room nothing refused back items of 4 files rows sum")?;
+    println!(rt; "round sector applied room nothing refused back items of 4 files rows sum")?;
     for round in 0..20 {
         if let Err(broken) = run_round(&mut seed, &mut s, &mut counts, round) {
-            return print_broken(&rt, broken.claim, round, broken.call);
+            return print_broken(rt, broken.claim, round, broken.call);
         }
-        print_round(&rt, &s, &counts, round)?;
+        print_round(rt, &s, &counts, round)?;
     }
-    print_end(&rt, &counts)
+    print_end(rt, &counts)
+}
+
+// What is printed is compared, so a write that fails is told by what is missing, and by no status.
+fn main(rt: HostRuntime) {
+    let _ = run_history(&rt);
 }

@@ -35,10 +35,12 @@ impl Ledger {
         }
     }
 
+    // By its own subtraction: `Item::reference` makes the lines that are checked by this.
     pub fn note_items(&mut self, list: &[u8], more: bool) {
         for item in item::items(list) {
             if let Some(start) = state::named(item) {
-                self.note(start, item.reference(), more);
+                let offset = item.key.wrapping_sub(item.position());
+                self.note(start, offset, more);
             }
         }
     }
