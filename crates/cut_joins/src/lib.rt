@@ -13,12 +13,15 @@ ghost use Rattle.cut_joins.specs.Joins.{Joined, Within, Behind, Before, Joining,
 use cut_segment::{Making, Segment, put_record, record_at, starting_by};
 use item::{Item, RECORD};
 
-// Record k of n taken away; those behind it move down.
+// Record k of n taken away; those behind it move down. (Record by record, as `slide` in cut_segment.)
 fn remove(seg: &mut [u8], k: usize, n: usize)
     requires { (k < n) × (n ≤ length (items seg.old)) }
     ensures { take (n - 1) (items seg.new) ≡ take k (items seg.old) ++ drop (k + 1) (take n (items seg.old)) }
 {
-    seg[k * RECORD..n * RECORD].rotate_left(RECORD);
+    for i in k..n - 1 {
+        let next = record_at(seg, i + 1);
+        put_record(seg, i, next);
+    }
 }
 
 // Two items joined, if they are joinable.

@@ -1,12 +1,12 @@
--- Putting an item among the records of a buffer. Assumes nothing.
+-- Putting an item among the records of a buffer, and taking one away. Assumes nothing.
 use mathlib.Core.Path.{◌≡◌, refl, ap, ◌∙◌, sym}
 use mathlib.Core.Bool.{Bool, true, false, cond, ◌&&◌}
 use mathlib.Core.List.{List, [], ◌∷◌, ◌++◌, map, append-nil}
-use Prim.Native.Nat.{ℕ, suc, ◌+◌, ◌*◌, ◌≤◌, ◌<◌}
+use Prim.Native.Nat.{ℕ, suc, ◌+◌, ◌-◌, ◌*◌, ◌≤◌, ◌<◌}
 use native.Mathlib.Omega.{arith}
 use native.Mathlib.Numerals.{add-one}
-use lib.ListN.{length, get_or, take, drop, set}
-use lib.Seq.{take-suc-set, take-set-lt, drop-set-lt, drop-cons, get_or-take, length-take-le, take-take}
+use lib.ListN.{length, get_or, take, drop, set, drop_of_length-le}
+use lib.Seq.{take-suc-set, take-set-lt, drop-set-lt, drop-cons, get_or-take, length-take-le, append_snoc, take-take}
 use lib.Dec.{ltb}
 use borrow.Author.Tests.{leb-true, leb-false, ltb-true, ltb-false, lt-ltb, le-ltb}
 use Rattle.records.specs.Stages.{every}
@@ -19,7 +19,7 @@ use Rattle.cut_segment.specs.Segments.{nothing, item_at, segment_of, pieces, lea
 use Rattle.cut_segment.proofs.Buffer.{items-room}
 use Rattle.cut_segment.proofs.Cutting.{leading-most}
 
--- ---- a buffer's records: l are its items, of which the first n count
+-- ---- the loops: what is left, done to the present buffer, is the whole. l is the buffer's items, the first n count.
 
 -- the first n from i on
 pub drop-next : (l : List Fields) (n i : ℕ) → i < n → n ≤ length l → drop i (take n l) ≡ get_or l i nothing ∷ drop (i + 1) (take n l)
@@ -31,6 +31,27 @@ module _ (l l' : List Fields) (n i : ℕ) (x : Fields) (h : i < n) (m : n ≤ le
 
   pub left : (j : ℕ) → i < j → drop j (take n l') ≡ drop j (take n l)
   left j g = rw (e, take-set-lt n l i x h) (drop-set-lt j (take n l) i x g)
+
+  -- a turn that lets x in and takes y on
+  pub slide_turn : (y : Fields) → y ≡ get_or l i nothing → take (i + 1) l' ++ y ∷ drop (i + 1) (take n l') ≡ take i l ++ x ∷ drop i (take n l)
+  slide_turn y p =
+      rw (took, left (i + 1) (omega arith), drop-next l n i h m, p) (append_snoc (take i l) x _)
+
+  -- a turn that moves a record down
+  pub remove_turn : i + 1 < n → x ≡ get_or l (i + 1) nothing → take (i + 1) l' ++ drop (i + 1 + 1) (take n l') ≡ take i l ++ drop (i + 1) (take n l)
+  remove_turn g p =
+      rw (took, left (i + 1 + 1) (omega arith), drop-next l n (i + 1) g m, ← p) (append_snoc (take i l) x _)
+
+pub slide_done : (l l' : List Fields) (n i : ℕ) (x : Fields) → i ≡ n → n < length l → l' ≡ set l n x → take (n + 1) l' ≡ take i l ++ x ∷ drop i (take n l)
+slide_done l l' n i x e h p =
+    let z : drop n (take n l) ≡ [] = drop_of_length-le (take n l) {i = n} (omega (arith, length-take-le n l (omega arith))) in
+    rw (p, e, add-one, z) (take-suc-set l n x h)
+
+pub remove_done : (l : List Fields) (n i : ℕ) → i + 1 ≡ n → n ≤ length l → take (n - 1) l ≡ take i l ++ drop (i + 1) (take n l)
+remove_done l n i e h =
+    let z : drop (i + 1) (take n l) ≡ [] = drop_of_length-le (take n l) {i = i + 1} (omega (arith, length-take-le n l h)) in
+    let k : n - 1 ≡ i = omega arith in
+    rw (z, k, append-nil) refl
 
 -- ---- an item put at its key
 

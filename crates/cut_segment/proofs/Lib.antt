@@ -5,4 +5,3 @@ pub mod Segments
 pub mod Touching
 pub mod Inserting
 pub mod Spans
-pub mod Turned

@@ -189,13 +189,19 @@ impl<'a> Running<'a> {
 
 // ---- putting an item in
 
-// An item in front of record k of n, which moves up with those behind it.
+// An item in front of record k of n, which moves up with those behind it. (Record by record: `rotate_right` would call memcpy and
+// memmove, which the library for C does without.)
 fn slide(seg: &mut [u8], k: usize, n: usize, item: Item)
     requires { (k ≤ n) × (n < length (items seg.old)) }
     ensures { take (n + 1) (items seg.new) ≡ take k (items seg.old) ++ fields item ∷ drop k (take n (items seg.old)) }
 {
-    put_record(seg, n, item);
-    seg[k * RECORD..(n + 1) * RECORD].rotate_right(RECORD);
+    let mut carried = item;
+    for i in k..n {
+        let next = record_at(seg, i);
+        put_record(seg, i, carried);
+        carried = next;
+    }
+    put_record(seg, n, carried);
 }
 
 // An item put among a segment's, at its key: any item, and a segment of any list.

@@ -1,25 +1,33 @@
-use lib.ListN.{length}
-use mathlib.Core.Path.{◌≡◌}
-use native.Mathlib.Omega.{arith}
-use borrow.Author.Rules.{rules}
-use Rattle.item.specs.Items.{items}
+use Rattle.cut_segment.proofs.Inserting.{slide_turn, slide_done}
 use Rattle.item.proofs.Laws.{items-length}
-use Rattle.cut_segment.proofs.Turned.{slid}
+use Rattle.item.specs.Items.{items}
+use borrow.Author.Rules.{rules}
+use lib.ListN.{length}
+use Prim.Native.Nat.{◌≤◌}
+use mathlib.Core.Path.{◌≡◌, ◌∙◌, refl}
+use native.Mathlib.Omega.{arith}
 use Rattle.cut_segment.proofs.slide.Goals as goal
 
-pub overflow_mul-k : goal.overflow_mul-k
-overflow_mul-k c = omega (arith, items-length c.args.seg.now)
+pub loop-i-init : goal.loop-i-init
+loop-i-init c = (omega arith, refl, refl)
 
-pub overflow_add-n : goal.overflow_add-n
-overflow_add-n c = omega (arith, items-length c.args.seg.now)
+pub record_at-next-requires : goal.record_at-next-requires
+record_at-next-requires c = omega (arith, items-length c.args.seg.now, items-length c.loop-i.seg)
 
-pub overflow_mul-n : goal.overflow_mul-n
-overflow_mul-n c = omega (arith, items-length c.args.seg.now)
+pub put_record-requires : goal.put_record-requires
+put_record-requires c = omega (arith, items-length c.args.seg.now, items-length c.loop-i.seg)
 
-pub slice_bounds-rotate_right-end : goal.slice_bounds-rotate_right-end
-slice_bounds-rotate_right-end c = let e : length c.put_record.new.seg ≡ length c.args.seg.now = search rules in omega (arith, items-length c.args.seg.now)
+pub loop-i-preserved : goal.loop-i-preserved
+loop-i-preserved c = let a = c.args in
+    let l = c.loop-i in
+    let h : a.n ≤ length (items l.seg) = omega (arith, items-length a.seg.now, items-length l.seg) in
+    let e : length c.put_record.new.seg ≡ length l.seg = search rules in
+    (omega arith, e ∙ l.invariant.1, slide_turn _ _ a.n l.i _ (omega arith) h c.put_record.ensures _ c.record_at-next.ensures ∙ l.invariant.2)
+
+pub put_record-requires-2 : goal.put_record-requires-2
+put_record-requires-2 c = omega (arith, items-length c.args.seg.now, items-length c.loop-i.seg)
 
 pub returns : goal.returns
 returns c = let a = c.args in
-    let e : length c.put_record.new.seg ≡ length a.seg.now = search rules in
-    slid (items a.seg.now) c.put_record.new.seg c.rotate_right.new.self a.k a.n _ c.requires.0 c.requires.1 (omega (arith, items-length a.seg.now)) c.put_record.ensures c.rotate_right.ensures.after
+    let l = c.loop-i in
+    slide_done _ _ a.n l.i _ (omega arith) (omega (arith, items-length a.seg.now, items-length l.seg)) c.put_record-2.ensures ∙ l.invariant.2
