@@ -23,7 +23,7 @@ use Rattle.cut_def.specs.Refs.{Ref}
 use Rattle.plan_def.specs.Plans.{Plan}
 use Rattle.apply_def.specs.Apply.{lines_at, gained, lost, goes, row_missing, net_sound}
 use Rattle.plan_def.specs.ReadBack.{ref_in, refs_in}
-use Rattle.apply_counts.specs.Counts.{names, moved_by, AllTallied, AllMarked, Zeros, Counted, net, net_fits, nets}
+use Rattle.apply_counts.specs.Counts.{names, moved_by, AllTallied, AllMarked, Zeros, Counted, CountedBothWays, net, net_fits, nets}
 
 -- ---- by how much lines move a count
 
@@ -70,18 +70,31 @@ module _ (rs : List Row) where
   pub three_stages : (a b c : List Ref) (x y z r : ℕ) → x ≡ stage (row_missing rs) a → y ≡ stage (row_missing rs) b → z ≡ stage (row_missing rs) c → r ≡ first x (first y z) → r ≡ stage (row_missing rs) (a ++ (b ++ c))
   three_stages a b c x y z r p q s e = e ∙ ap₂ first p (ap₂ first q s) ∙ sym (stage_append (row_missing rs) a (b ++ c) ∙ ap (first (stage (row_missing rs) a)) (stage_append (row_missing rs) b c))
 
-  module _ (p : Plan) (changes : List ℤ) (gone : List Bool) (zero : Zeros (length rs) changes gone) where
-    pub counted_all : (a b c : List ℤ) (d : List Bool) (x y z : ℕ) → AllMarked rs p.releases gone d → AllTallied rs p.shares (pos 1) changes x a → AllTallied rs p.unrefs (negsuc 0) a y b → AllTallied rs p.releases (negsuc 0) b z c → Counted p rs c d
-    counted_all a b c d x y z m ta tb tc =
-        record {
-          moves = λ k e h. let start : ℕ = (get_or rs k e).start in
-              omega (arith, ints, ta.count k e h, tb.count k e h, tc.count k e h, moved_up start p.shares, moved_down start p.unrefs, moved_down start p.releases, (zero.zero k h).0);
-          leaves = λ k e h. m.mark k e h ∙ ap (λ (b : Bool). any (names (get_or rs k e).start) p.releases || b) (zero.zero k h).1 ∙ none (any (names (get_or rs k e).start) p.releases);
-        }
+  module _ (p : Plan) (gone : List Bool) where
+    leaves_all : (changes : List ℤ) → Zeros (length rs) changes gone → (d : List Bool) → AllMarked rs p.releases gone d → (y : ℕ) (e : Row) → y < length rs → get_or d y false ≡ goes p (get_or rs y e)
+    leaves_all changes zero d m y e h = m.mark y e h ∙ ap (λ (b : Bool). any (names (get_or rs y e).start) p.releases || b) (zero.zero y h).1 ∙ none (any (names (get_or rs y e).start) p.releases)
       where
         none : (b : Bool) → (b || false) ≡ b
         none true = refl
         none false = refl
+
+    pub counted_all : (changes : List ℤ) → Zeros (length rs) changes gone → (a b c : List ℤ) (d : List Bool) (x y z : ℕ) → AllMarked rs p.releases gone d → AllTallied rs p.shares (pos 1) changes x a → AllTallied rs p.unrefs (negsuc 0) a y b → AllTallied rs p.releases (negsuc 0) b z c → Counted p rs c d
+    counted_all changes zero a b c d x y z m ta tb tc =
+        record {
+          moves = λ k e h. let start : ℕ = (get_or rs k e).start in
+              omega (arith, ints, ta.count k e h, tb.count k e h, tc.count k e h, moved_up start p.shares, moved_down start p.unrefs, moved_down start p.releases, (zero.zero k h).0);
+          leaves = leaves_all changes zero d m;
+        }
+
+    pub both_counted : (gained lost : List ℤ) → Zeros (length rs) gained gone → Zeros (length rs) lost gone → (a b c : List ℤ) (d : List Bool) (x y z : ℕ) → AllMarked rs p.releases gone d → AllTallied rs p.shares (pos 1) gained x a → AllTallied rs p.unrefs (pos 1) lost y b → AllTallied rs p.releases (pos 1) b z c → CountedBothWays p rs a c d
+    both_counted gained lost none nil a b c d x y z m ta tb tc =
+        record {
+          gains = λ k e h. let start : ℕ = (get_or rs k e).start in
+              omega (arith, ints, ta.count k e h, moved_up start p.shares, (none.zero k h).0);
+          losses = λ k e h. let start : ℕ = (get_or rs k e).start in
+              omega (arith, ints, tb.count k e h, tc.count k e h, moved_up start p.unrefs, moved_up start p.releases, (nil.zero k h).0);
+          leaves = leaves_all gained none d m;
+        }
 
 -- ---- net counts
 

@@ -44,6 +44,12 @@ pub record Counted (p : Plan) (rs : List Row) (changes : List ℤ) (gone : List 
   pub moves : (y : ℕ) (e : Row) → y < length rs → get_or changes y (pos 0) ≡ pos (gained p (get_or rs y e).start) -ℤ pos (lost p (get_or rs y e).start)
   pub leaves : (y : ℕ) (e : Row) → y < length rs → get_or gone y false ≡ goes p (get_or rs y e)
 
+-- or what each row gains and what it loses
+pub record CountedBothWays (p : Plan) (rs : List Row) (raised lowered : List ℤ) (gone : List Bool) : Type 0 where
+  pub gains : (y : ℕ) (e : Row) → y < length rs → get_or raised y (pos 0) ≡ pos (gained p (get_or rs y e).start)
+  pub losses : (y : ℕ) (e : Row) → y < length rs → get_or lowered y (pos 0) ≡ pos (lost p (get_or rs y e).start)
+  pub leaves : (y : ℕ) (e : Row) → y < length rs → get_or gone y false ≡ goes p (get_or rs y e)
+
 -- ---- net counts
 
 -- references with what moves them: not below zero, and in 64 bits
@@ -54,6 +60,10 @@ net_fits references (negsuc n) = leb (suc n) references && ltb (references - suc
 abbrev pub net : ℕ → ℤ → ℕ
 net references (pos n) = references + n
 net references (negsuc n) = references - suc n
+
+-- the same of what is gained and what is lost
+abbrev pub net_count_fits : (references gained lost : ℕ) → Bool
+net_count_fits references gained lost = leb lost (references + gained) && ltb (references + gained - lost) (2 ^ 64)
 
 -- of each row
 unfoldable pub nets : (changes : List ℤ) → List Row → Bool

@@ -1,5 +1,5 @@
-// The lines of a plan counted by row of the table, in arrays that are lent: by how much each row's count moves, and which rows
-// go. Refusals 14, an extent without a row, and 3, a net count that leaves 64 bits.
+// The lines of a plan counted by row of the table, in arrays that are lent: by how much each row's count moves, or what it gains
+// and what it loses, and which rows go. Refusals 14, an extent without a row, and 3, a net count that leaves 64 bits.
 #![tactic(auto)]
 
 ghost use Rattle.std.specs.Prelude.{◌≡◌, true, ◌++◌, ℕ, ◌+◌, ◌-◌, ◌*◌, ◌/◌, ◌≤◌, ◌<◌, ◌^◌, not, cond, count_by, Some, None, length, take};
@@ -10,7 +10,7 @@ ghost use Rattle.table.specs.Rows.{rows};
 ghost use Rattle.apply_def.specs.Apply.{row_missing};
 ghost use Rattle.apply_def.specs.Lent.{lent, plan_lent};
 ghost use Rattle.plan_def.specs.ReadBack.{refs_in};
-ghost use Rattle.apply_counts.specs.Counts.{AllTallied, AllMarked, Counted, Room, Zeros, net, net_fits, nets};
+ghost use Rattle.apply_counts.specs.Counts.{AllTallied, AllMarked, Counted, CountedBothWays, Room, Zeros, net, net_fits, net_count_fits, nets};
 
 use apply_def::Parts;
 use records::refusal::{Refusal, check};
@@ -85,6 +85,26 @@ pub fn count_lines<'a, 'b>(
     (Marked { table, counts }, a.and(b).and(c))
 }
 
+// What a plan's lines do to the rows of a table, counted in arrays of zeros: the references that each row gains, those that it loses,
+// and whether it goes; and 14 if a line has no row.
+pub fn count_gains_and_losses(
+    table: Table,
+    plan: Parts,
+    gained: &mut [i64],
+    lost: &mut [i64],
+    gone: &mut [bool],
+) -> Result<(), Refusal>
+    requires { Zeros (length (rows table.numbers.now)) gained.old gone.old × Zeros (length (rows table.numbers.now)) lost.old gone.old }
+    ensures { (why result ≡ stage (row_missing (rows table.entry.numbers.now)) (refs_in plan.entry.shares.now ++ (refs_in plan.entry.unrefs.now ++ refs_in plan.entry.releases.now)))
+        × CountedBothWays (plan_lent (lent plan.entry)) (rows table.entry.numbers.now) gained.new lost.new gone.new }
+{
+    mark(table, plan.releases, gone);
+    let a = tally(table, plan.shares, 1, gained);
+    let b = tally(table, plan.unrefs, 1, lost);
+    let c = tally(table, plan.releases, 1, lost);
+    a.and(b).and(c)
+}
+
 impl<'a> RowCounts<'a> {
     // How many rows stay.
     pub fn staying(self) -> usize
@@ -99,6 +119,17 @@ pub fn net(references: u64, change: i64) -> Option<u64>
     ensures { result ≡ cond (net_fits references change) (Some (net references change)) None }
 {
     references.checked_add_signed(change)
+}
+
+// A net count, of what a row gains and what it loses, where it is not below zero and fits 64 bits.
+pub fn net_count(references: u64, gained: u64, lost: u64) -> u64
+    requires { net_count_fits references gained lost ≡ true }
+    ensures { result ≡ references + gained - lost }
+{
+    if gained <= lost {
+        return references - (lost - gained);
+    }
+    references + (gained - lost)
 }
 
 impl<'a, 'b> Marked<'a, 'b> {

@@ -38,6 +38,12 @@ pub record Stepped (v : Walk) (s : Step) (w : Walk) : Type 0 where
   pub from : IsFrom v.edited.list.now v.edited.edits.now s.origin (fields s.item)
   pub on : Passes s.origin v w
 
+-- or a delete was passed, which gives none
+pub record DeletePassed (v w : Walk) : Type 0 where
+  pub same : w.edited ≡ v.edited
+  pub first : pieces_ahead v ≡ pieces_ahead w
+  pub on : (v.i ≤ w.i) × (w.j ≡ v.j + 1)
+
 -- nothing is ahead
 abbrev pub Ended : Walk → Walk → Type 0
 Ended v w = (pieces_ahead v ≡ []) × (pieces_ahead w ≡ [])

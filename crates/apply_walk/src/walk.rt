@@ -34,8 +34,8 @@ pub struct Step {
 #[derive(Clone, Copy)]
 pub struct Walk<'a> {
     edited: Edited<'a>,
-    i: usize,
-    j: usize,
+    pub i: usize,
+    pub j: usize,
     ghost old_in: { i ≤ length edited.list.now / 70 },
     ghost new_in: { j ≤ length edited.edits.now / 71 },
 }
@@ -47,16 +47,21 @@ impl<'a> Edited<'a> {
     pub fn walk(self) -> Walk<'a>
         ensures { ahead result ≡ items_now self.entry.list.now self.entry.edits.now }
     {
-        Walk {
-            edited: self,
-            i: 0,
-            j: 0,
-        }
+        self.walk_from(0, 0)
+    }
+
+    // The same from old record i and edit j on.
+    pub fn walk_from(self, i: usize, j: usize) -> Walk<'a>
+        requires { (i ≤ length self.list.now / 70) × (j ≤ length self.edits.now / 71) }
+        ensures { (result.edited ≡ self.entry) × (result.i ≡ i) × (result.j ≡ j) }
+    {
+        let edited = self;
+        Walk { edited, i, j }
     }
 }
 
 impl<'a> Walk<'a> {
-    ghost use Rattle.apply_walk.specs.Walks.{Stepped, Ended};
+    ghost use Rattle.apply_walk.specs.Walks.{Stepped, DeletePassed, Ended};
 
     // Old record i, passed.
     fn keep(&mut self) -> Step
@@ -72,32 +77,45 @@ impl<'a> Walk<'a> {
         }
     }
 
-    // The next record of the result, and where it is from: the one with the lower key, of old record i and edit j. An edit passes
-    // the old record of its key, and a delete gives none. By number: a cursor over two lists.
-    pub fn next_record(&mut self) -> Option<Step>
-        ensures { MatchOption result (Ended self.old self.new) (λ s. Stepped self.old s self.new) }
+    // A step of the walk: the next record of the result, and where it is from, or nothing where it passes a delete. It takes the one with
+    // the lower key, of old record i and edit j. An edit passes the old record of its key. By number: a cursor over two lists.
+    pub fn step(&mut self) -> Option<Step>
+        requires { self.old.i + self.old.j < length self.old.edited.list.now / 70 + length self.old.edited.edits.now / 71 }
+        ensures { MatchOption result (DeletePassed self.old self.new) (λ s. Stepped self.old s self.new) }
     {
         let list = self.edited.list;
         let edits = self.edited.edits;
-        while self.j < edits.len() / item::EDIT {
-            let j = self.j;
-            let edit = plan_lines::edit_item(edits, j);
-            if edit_merge::is_gone(list, self.i, Some(edit.key)) {
-                return Some(self.keep());
-            }
-            self.i = edit_merge::passed(list, self.i, edit.key);
-            self.j = j + 1;
-            if plan_lines::is_put(edits, j) {
-                return Some(Step {
-                    origin: Origin::Put(j),
-                    item: edit,
-                });
+        let j = self.j;
+        if j >= edits.len() / item::EDIT {
+            return Some(self.keep());
+        }
+        let edit = plan_lines::edit_item(edits, j);
+        if edit_merge::is_gone(list, self.i, Some(edit.key)) {
+            return Some(self.keep());
+        }
+        self.i = edit_merge::passed(list, self.i, edit.key);
+        self.j = j + 1;
+        if plan_lines::is_put(edits, j) {
+            return Some(Step {
+                origin: Origin::Put(j),
+                item: edit,
+            });
+        }
+        None
+    }
+
+    // The next record of the result, and where it is from, behind the deletes before it.
+    pub fn next_record(&mut self) -> Option<Step>
+        ensures { MatchOption result (Ended self.old self.new) (λ s. Stepped self.old s self.new) }
+    {
+        while self.j < self.edited.edits.len() / item::EDIT
+            || self.i < self.edited.list.len() / item::RECORD
+        {
+            if let Some(step) = self.step() {
+                return Some(step);
             }
         }
-        if self.i >= list.len() / item::RECORD {
-            return None;
-        }
-        Some(self.keep())
+        None
     }
 }
 
@@ -110,6 +128,8 @@ impl<'a> Iterator for Walk<'a> {
 
     ghost remaining = { λ w. at_most (length w.edited.list.now / 70 - w.i + (length w.edited.edits.now / 71 - w.j)) };
 
+    // Built into the loops that call it for each record.
+    #[inline(always)]
     fn next(&mut self) -> Option<Item> {
         Some(self.next_record()?.item)
     }
