@@ -40,12 +40,17 @@ delete_whole key a =
     let x : length (decimal key) ≤ 20 = length_64 key a in
     whole (delete_line key) (simp (length_parts, length_none, length-field) (omega arith))
 
-pub ref_whole : (word : List ℕ) (r : Ref) → length word ≤ 8 → r.start < 2 ^ 64 → r.offset < 2 ^ 64 → ref_line word r ≡ added [] (joined (word ∷ field (text "at") r.start ∷ field (text "ref") r.offset ∷ end ∷ []))
+-- behind a short word a reference fits
+pub ref_fits : (word : List ℕ) (r : Ref) → length word ≤ 8 → r.start < 2 ^ 64 → r.offset < 2 ^ 64 → length (ref_line word r) ≤ 256
 unfolding ref_line
-ref_whole word r h a b =
+ref_fits word r h a b =
     let x : length (decimal r.start) ≤ 20 = length_64 r.start a in
     let y : length (decimal r.offset) ≤ 20 = length_64 r.offset b in
-    whole (ref_line word r) (simp (length_parts, length_none, length-field) (omega arith))
+    simp (length_parts, length_none, length-field) (omega arith)
+
+pub ref_whole : (word : List ℕ) (r : Ref) → length (ref_line word r) ≤ 256 → ref_line word r ≡ added [] (joined (word ∷ field (text "at") r.start ∷ field (text "ref") r.offset ∷ end ∷ []))
+unfolding ref_line
+ref_whole word r h = whole (ref_line word r) h
 
 pub add_whole : (n : Add) → n.start < 2 ^ 64 → n.length < 2 ^ 64 → n.key < 2 ^ 64 → add_line n ≡ added [] (joined (text "(add" ∷ field (text "at") n.start ∷ field (text "len") n.length ∷ field (text "key") n.key ∷ end ∷ []))
 unfolding add_line

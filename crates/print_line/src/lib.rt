@@ -27,11 +27,18 @@ fn number_line(line: &mut Line, word: &[u8], n: u64)
     line.text(b")\n");
 }
 
+// A refusal by its number.
+pub fn refused_number_line(line: &mut Line, n: u8)
+    ensures { line.new ≡ refused_line n }
+{
+    number_line(line, b"(refused", u64::from(n));
+}
+
 // A refusal.
 pub fn refused_line(line: &mut Line, refusal: Refusal)
     ensures { line.new ≡ refused_line (number refusal) }
 {
-    number_line(line, b"(refused", refusal.number() as u64);
+    refused_number_line(line, refusal.number());
 }
 
 // An input line that can't be read.
@@ -63,7 +70,7 @@ pub fn delete_line(line: &mut Line, key: u64)
 
 // A reference, under the word of its line.
 pub fn ref_line(line: &mut Line, word: &[u8], start: u64, offset: u64)
-    requires { length word.now ≤ 8 }
+    requires { length (ref_line word.now (record { start = start; offset = offset })) ≤ 256 }
     ensures { line.new ≡ ref_line word.now (record { start = start; offset = offset }) }
 {
     line.begin(word);

@@ -21,7 +21,7 @@ pub fn edit_line(edits: &[u8], n: usize, line: &mut Line)
 }
 
 // A share, an unref or a release, by its word.
-#[tactic(auto, using(crate::proofs::Lines::ref_read))]
+#[tactic(auto, using(crate::proofs::Lines::ref_read, print_line::proofs::Bounds::ref_fits))]
 pub fn ref_line(word: &[u8], refs: &[u64], n: usize, line: &mut Line)
     requires { (length word.now ≤ 8) × (n < length refs.now / 2) }
     ensures { line.new ≡ ref_line word.now (ref_in (drop (n * 2) refs.now)) }

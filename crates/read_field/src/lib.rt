@@ -81,9 +81,9 @@ pub fn numbers<'a>(s: &'a [u8], places: &mut [u64], limit: u64) -> Option<&'a [u
 
 // A field: how it opens, how many numbers it has, and their limit.
 #[derive(Clone, Copy)]
-pub struct Field(pub &'static [u8], pub usize, pub u64);
+pub struct Field<'a>(pub &'a [u8], pub usize, pub u64);
 
-impl Field {
+impl Field<'_> {
     // Its numbers; where it isn't there they are 0.
     #[tactic(auto, using(crate::proofs::Steps::field_laws))]
     pub fn read<'a>(&self, s: &'a [u8], places: &mut [u64]) -> Option<&'a [u8]>

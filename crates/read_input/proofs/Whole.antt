@@ -16,11 +16,8 @@ use Rattle.read_order.specs.Order.{next}
 use Rattle.read_order.specs.Taking.{Numbers, begin, taken}
 use Rattle.read_order.specs.Few.{Few}
 use Rattle.read_store.specs.Buffers.{Buffers}
-use Rattle.read_store.specs.Storing.{Took, Filled, Stored}
-use Rattle.read_store.proofs.Runs.{Going, going_first, going-turn, going_done, going_fault, fault_took, fault-phase, few-first, few-less, few-turn}
-use Rattle.std.specs.Prelude.{Result, Ok, Err, IsErrAnd}
-use Rattle.read_order.specs.Run.{Reading}
-use Rattle.read_input.specs.Raw.{ReadsIn}
+use Rattle.read_store.specs.Storing.{Took, Stored}
+use Rattle.read_store.proofs.Runs.{Going, going_first, going-turn, going_done, going_fault, fault_took, fault-phase, fault_taken, few-first, few-less, few-turn}
 use Rattle.read_input.specs.Split.{lines, line_length}
 use Rattle.read_input.specs.Input.{kind_of, values_of, read_input}
 use Rattle.read_input.proofs.Split.{lines-first, lines_none}
@@ -55,12 +52,11 @@ module _ (s : List ℕ) (b₀ : Buffers) (rest : List ℕ) (r : Numbers) (b : Bu
         }
 
     -- a line at fault
-    pub onward-fault : (n : ℕ) (b' : Buffers) → n ≡ r.line → next r.phase (kind_of line) ≡ 0 → b' ≡ b → ((read_input s).numbers.phase ≡ 0) × ((read_input s).numbers.line ≡ n) × Filled (read_input s) b₀ b'
+    pub onward-fault : (b' : Buffers) → next r.phase (kind_of line) ≡ 0 → b' ≡ b → Stored (read_input s) b₀ (record r { phase = 0 }) b'
     unfolding read_input
-    onward-fault n b' e z f =
-        let k = fault-phase r (kind_of line) (values_of line) z in
-        let g = going_fault kind_of values_of (lines s) b₀ (taken r (kind_of line) (values_of line)) (lines behind) b (turn _ b (fault_took r (kind_of line) (values_of line) b z)) k.0 in
-        (g.0, rw (e, ← k.1) g.1, rw f g.2)
+    onward-fault b' z f =
+        rw (f, ← fault_taken r (kind_of line) (values_of line) z)
+        (going_fault kind_of values_of (lines s) b₀ (taken r (kind_of line) (values_of line)) (lines behind) b (turn _ b (fault_took r (kind_of line) (values_of line) b z)) (fault-phase r (kind_of line) (values_of line) z).0)
 
 pub onward_done : (s : List ℕ) (b₀ : Buffers) (r : Numbers) (b : Buffers) (rest : List ℕ) → length rest ≡ 0 → Onward s b₀ rest r b → Stored (read_input s) b₀ r b
 unfolding read_input
@@ -87,8 +83,3 @@ not_empty (suc n) e = omega arith
 
 pub empty : (n : ℕ) → true ≡ eqb n 0 → n ≡ 0
 empty n e = eqb-true n 0 (sym e)
-
--- an error that is handed on
-pub handed_on : (x : Reading) (b : Buffers) (r : Result Read ℕ) (n : ℕ) (b' : Buffers) → IsErrAnd r (λ (m : ℕ). m ≡ n) → (x.numbers.phase ≡ 0) × (x.numbers.line ≡ n) × Filled x b b' → ReadsIn x b r b'
-handed_on x b (Ok t) n b' h f = absurd h
-handed_on x b (Err m) n b' h f = rw h f

@@ -34,7 +34,7 @@ struct Shape {
     kind: Kind,
     opening: &'static [u8],
     count: usize,
-    fields: &'static [Field],
+    fields: &'static [Field<'static>],
 }
 
 static SHAPES: [Shape; 8] = [

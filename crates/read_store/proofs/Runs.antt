@@ -1,6 +1,6 @@
 -- Lines that are taken one after the other: what is left of them, taken from here, is the whole. Assumes nothing.
 use mathlib.Core.Path.{◌≡◌, refl, ap, ◌∙◌, sym}
-use mathlib.Core.Bool.{Bool, true, false, cond, ◌&&◌, not, and-false}
+use mathlib.Core.Bool.{Bool, true, false, cond, ◌&&◌, not, and-false, and-true}
 use mathlib.Core.List.{List, [], ◌∷◌}
 use Prim.Native.Nat.{ℕ, ◌+◌, ◌≤◌, ◌<◌}
 use native.Mathlib.Nat.{add-zero}
@@ -106,6 +106,11 @@ pub fault-phase : (r : Numbers) (k : ℕ) (v : List ℕ) → next r.phase k ≡ 
 unfolding taken taken_to
 fault-phase r k v e = (e, rw e (add-zero r.line))
 
+-- nor does it change anything else
+pub fault_taken : (r : Numbers) (k : ℕ) (v : List ℕ) → next r.phase k ≡ 0 → taken r k v ≡ record r { phase = 0 }
+unfolding taken taken_to
+fault_taken r k v e = rw e (simp (and-false, and-true, add-zero) refl)
+
 -- ---- a loop over lines
 
 module _ {L : Type 0} (kind : L → ℕ) (values : L → List ℕ) where
@@ -173,13 +178,13 @@ module _ {L : Type 0} (kind : L → ℕ) (values : L → List ℕ) where
   going_done ls₀ b₀ r b g = record { numbers = g.numbers; filled = filled_all ls₀ b₀ r [] b g refl refl refl refl }
 
   -- behind a line at fault no line is counted or stored
-  at_fault : (r : Numbers) (ls : List L) → r.phase ≡ 0 → ((after kind values r ls).phase ≡ 0) × ((after kind values r ls).line ≡ r.line)
-  unfolding after taken taken_to
-  at_fault r [] p = (p, refl)
+  at_fault : (r : Numbers) (ls : List L) → r.phase ≡ 0 → after kind values r ls ≡ r
+  unfolding after
+  at_fault r [] p = refl
   at_fault r (l ∷ ls) p =
       let q : next r.phase (kind l) ≡ 0 = rw p (next-none (kind l)) in
-      let e = at_fault (taken r (kind l) (values l)) ls q in
-      (e.0, e.1 ∙ rw q (add-zero r.line))
+      let e : taken r (kind l) (values l) ≡ r = fault_taken r (kind l) (values l) q ∙ ap (λ (n : ℕ). record r { phase = n }) (sym p) in
+      ap (λ (x : Numbers). after kind values x ls) e ∙ at_fault r ls p
 
   nothing-more : {A : Type 0} (g : Numbers → ℕ → List ℕ → List A) → ((r : Numbers) (k : ℕ) (v : List ℕ) → next r.phase k ≡ 0 → g r k v ≡ []) → (r : Numbers) (ls : List L) → r.phase ≡ 0 → along kind values g r ls ≡ []
   unfolding along taken taken_to
@@ -193,14 +198,13 @@ module _ {L : Type 0} (kind : L → ℕ) (values : L → List ℕ) where
       (ls₀ : List L) (b₀ : Buffers) (r : Numbers) (ls : List L) (b : Buffers)
       → Going ls₀ b₀ r ls b
       → r.phase ≡ 0
-      → ((reading_of kind values ls₀).numbers.phase ≡ 0) × ((reading_of kind values ls₀).numbers.line ≡ r.line) × Filled (reading_of kind values ls₀) b₀ b
+      → Stored (reading_of kind values ls₀) b₀ r b
   unfolding reading_of
   going_fault ls₀ b₀ r ls b g p =
-      let e = at_fault r ls p in (
-        sym (ap (λ (n : Numbers). n.phase) g.numbers) ∙ e.0,
-        sym (ap (λ (n : Numbers). n.line) g.numbers) ∙ e.1,
-        filled_all ls₀ b₀ r ls b g (nothing-more items_in no_items r ls p) (nothing-more shared_in no_shared r ls p) (nothing-more rows_in no_rows r ls p) (nothing-more places_in no_places r ls p),
-      )
+      record {
+        numbers = sym (at_fault r ls p) ∙ g.numbers;
+        filled = filled_all ls₀ b₀ r ls b g (nothing-more items_in no_items r ls p) (nothing-more shared_in no_shared r ls p) (nothing-more rows_in no_rows r ls p) (nothing-more places_in no_places r ls p);
+      }
 
   pub few-turn : (r : Numbers) (l : L) (b : Buffers) (r' : Numbers) (b' : Buffers) (n m : ℕ) → Few r n → n < m → Took r (kind l) (values l) b r' b' → Few r' m
   few-turn r l b r' b' n m f h t = rw t.numbers (few-less (taken r (kind l) (values l)) (n + 1) m (omega arith) (few-taken r (kind l) (values l) n f))
