@@ -1,3 +1,4 @@
 pub mod Walks
 pub mod Reading
 pub mod Links
+pub mod Examples

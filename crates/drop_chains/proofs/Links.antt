@@ -28,9 +28,9 @@ use Rattle.ref_def.specs.declared.Leaves.{Leaves}
 use Rattle.plan_lines.specs.Lines.{Laid}
 use Rattle.plan_lines.proofs.Laws.{Going, going_first, going_done}
 use Rattle.std.specs.declared.ops.Range.{Range}
-use Rattle.drop_chains.specs.Chains.{along, From, Onward, byte_in, freed, line_in, unref_lines, release_lines}
+use Rattle.drop_chains.specs.Chains.{along, number_behind, From, byte_in, freed, line_in, unref_lines, release_lines}
 use Rattle.drop_chains.specs.Links.{drops_by, drop_at, Links, linked, Blank, Linked}
-use Rattle.drop_chains.proofs.Walks.{along_nil, along_at, along_set, freed_released}
+use Rattle.drop_chains.proofs.Walks.{along_nil, along_at, along_set, behind_nil, behind_set, behind_put, freed_released}
 use Rattle.drop_chains.proofs.Reading.{leaves_many, leaves_here}
 
 -- ---- which row a drop is of
@@ -84,7 +84,7 @@ module _
         row_room = done.row_room;
         room = done.room;
         starts = λ k m z. let y = done.starts k m z in (omega (arith, y.0), y.1);
-        onward = done.onward;
+        ended = done.ended;
         those = λ k x m. done.those k x m ∙ sym (kept_no (get_or rs k x).start (skips k x m));
         low = done.low;
         high = done.high;
@@ -105,10 +105,13 @@ module _
           row_room = rw length-set done.row_room;
           room = rw length-set done.room;
           starts = λ k m. start_at k m (ℕ_discrete k r);
-          onward = onward-put;
+          ended = λ k m. elim (ℕ_discrete k r) [
+            | yes q ↦ ap (λ (a : ℕ). number_behind nexts' 0 a ds) (head_at k q) ∙ behind_put l.nexts ds (length ds) i h₀ d h (omega (arith, done.room)) past ∙ done.ended r r_in
+            | no q ↦ ap (λ (a : ℕ). number_behind nexts' 0 a ds) (get_or-set_other l.heads r k (i + 1) 0 q) ∙ behind_set l.nexts ds (length ds) i h₀ (get_or l.heads k 0) (done.starts k m) ∙ done.ended k m
+          ];
           those = λ k x m. elim (ℕ_discrete k r) [
             | yes q ↦
-                ap (λ (a : ℕ). along nexts' 0 a ds) (head_at k q) ∙ along_at nexts' ds (length ds) i d h (onward-put i h)
+                ap (λ (a : ℕ). along nexts' 0 a ds) (head_at k q) ∙ along_at nexts' ds (length ds) i d h (rw next-at past)
                 ∙ ap₂ (λ (a : InLeaf) (b : List InLeaf). a ∷ b) (e d) (ap (λ (a : ℕ). along nexts' 0 a ds) next-at ∙ along_set l.nexts ds (length ds) i h₀ h₀ past ∙ ap (λ (a : ℕ). along l.nexts 0 (get_or l.heads a 0) ds) (sym q) ∙ done.those k x m)
                 ∙ sym (kept_yes (get_or rs k x).start (rw q (of_this dropped rs kept d r row f t x)))
             | no q ↦
@@ -146,12 +149,6 @@ module _
         next-at : get_or nexts' i 0 ≡ h₀
         next-at = get_or-set_same l.nexts i h₀ 0 (omega (arith, done.room))
 
-        onward-put : Onward (length ds) nexts'
-        onward-put j m = elim (ℕ_discrete j i) [
-          | yes q ↦ rw (q, next-at) past
-          | no q ↦ rw (get_or-set_other l.nexts i j h₀ 0 q) (done.onward j m)
-        ]
-
     -- put before the chain of its row, if it has one
     pub linked_drop : (o : Found) → o ≡ find d.item.extent_start rs → Linked dropped rs ds i (linked o i l)
     linked_drop (Some (r, row)) f = linked_put r row f
@@ -179,7 +176,7 @@ linked_first dropped rs ds i l b h =
       row_room = b.row_room;
       room = b.room;
       starts = λ k m z. absurd (z (b.none k m));
-      onward = λ j m z. absurd (z (b.ends j m));
+      ended = λ k m. ap (λ (a : ℕ). number_behind l.nexts 0 a ds) (b.none k m) ∙ behind_nil l.nexts ds 0;
       those = λ k x m. ap (λ (a : ℕ). along l.nexts 0 a ds) (b.none k m) ∙ along_nil l.nexts ds 0 ∙ sym (ap (keep (drop_at dropped (get_or rs k x).start)) (drop_of_length-le ds {i = i} h));
       low = omega (arith, b.low);
       high = omega (arith, b.high);
@@ -198,7 +195,6 @@ blank n t l s h r f a b =
       row_room = rw (length-replicate {A = ℕ} n 0) (omega (arith, rows-length t));
       room = rw (length-replicate {A = ℕ} n 0) (omega (arith, l.one_each));
       none = λ k q. get_or-replicate {A = ℕ} n k 0 0 (omega (arith, rows-length t));
-      ends = λ j q. get_or-replicate {A = ℕ} n j 0 0 (omega (arith, l.one_each));
       low = omega (arith, rows-length t);
       high = b;
     }

@@ -12,9 +12,9 @@ use Rattle.ref_def.specs.Lent.{leaves_of}
 use Rattle.ref_def.specs.declared.Leaves.{Leaves}
 use Rattle.ref_def.proofs.Drops.{leaves-length}
 use Rattle.drop_chains.specs.declared.chain.Chain.{Chain}
-use Rattle.drop_chains.specs.Chains.{along}
+use Rattle.drop_chains.specs.Chains.{along, number_behind, From}
 use Rattle.drop_chains.specs.Reading.{leaf, left}
-use Rattle.drop_chains.proofs.Walks.{along_nil, along_at, along_few}
+use Rattle.drop_chains.proofs.Walks.{along_nil, along_at, along_few, behind_from, behind_on}
 
 -- how many items there are
 pub leaves_many : (l : Leaves) → length (leaves_of l) ≡ length l.shared.now
@@ -46,12 +46,23 @@ left_none c e = rw e (along_nil c.nexts.now (leaves_of c.leaves) 0)
 
 module _ (c : Chain) (n : c.number ≡ 0 → ⊥) where
   pub number_in : c.number - 1 < length c.leaves.shared.now
-  number_in = omega (arith, (c.inside n).1)
+  number_in = let y = behind_from c.nexts.now (leaves_of c.leaves) 0 c.number c.ended n in omega (arith, y.0, y.1, leaves_many c.leaves)
+
+  here : c.number ≡ c.number - 1 + 1
+  here = omega arith
+
+  -- the number that stands at its first item
+  goes_on : From (c.number - 1 + 1) (length (leaves_of c.leaves)) (get_or c.nexts.now (c.number - 1) 0) × (number_behind c.nexts.now 0 (get_or c.nexts.now (c.number - 1) 0) (leaves_of c.leaves) ≡ 0)
+  goes_on =
+      behind_on c.nexts.now (leaves_of c.leaves) (c.number - 1) no_leaf (omega (arith, number_in, leaves_many c.leaves))
+      (ap (λ (h : ℕ). number_behind c.nexts.now 0 h (leaves_of c.leaves)) (sym here) ∙ c.ended)
+
+  pub ended_on : number_behind c.nexts.now 0 (get_or c.nexts.now (c.number - 1) 0) (leaves_of c.leaves) ≡ 0
+  ended_on = goes_on.1
 
   pub left_more : (item : Item) → item ≡ item_of (drop ((c.number - 1) * 70) c.leaves.list.now)
       → left c ≡ leaf (item, get_or c.leaves.shared.now (c.number - 1) 0) ∷ along c.nexts.now 0 (get_or c.nexts.now (c.number - 1) 0) (leaves_of c.leaves)
   left_more item e =
-      let here : c.number - 1 + 1 ≡ c.number = omega arith in
-      ap (λ (h : ℕ). along c.nexts.now 0 h (leaves_of c.leaves)) (sym here)
-      ∙ along_at c.nexts.now (leaves_of c.leaves) (length c.leaves.shared.now) (c.number - 1) no_leaf (omega (arith, number_in, leaves_many c.leaves)) (c.onward (c.number - 1) number_in)
+      ap (λ (h : ℕ). along c.nexts.now 0 h (leaves_of c.leaves)) here
+      ∙ along_at c.nexts.now (leaves_of c.leaves) (length (leaves_of c.leaves)) (c.number - 1) no_leaf (omega (arith, number_in, leaves_many c.leaves)) goes_on.0
       ∙ ap (λ (d : InLeaf). d ∷ along c.nexts.now 0 (get_or c.nexts.now (c.number - 1) 0) (leaves_of c.leaves)) (leaves_here c.leaves (c.number - 1) no_leaf item number_in e)

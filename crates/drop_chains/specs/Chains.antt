@@ -9,13 +9,14 @@ unfoldable pub along : {A : Type 0} → List ℕ → (i h : ℕ) → List A → 
 along nexts i h [] = []
 along nexts i h (x ∷ xs) = cond (eqb h (i + 1)) (x ∷ along nexts (i + 1) (get_or nexts i 0) xs) (along nexts (i + 1) h xs)
 
+-- the number that it is at behind them all: 0 if it has ended, and so each number that it met leads on. No other is read.
+unfoldable pub number_behind : {A : Type 0} → List ℕ → (i h : ℕ) → List A → ℕ
+number_behind nexts i h [] = h
+number_behind nexts i h (x ∷ xs) = cond (eqb h (i + 1)) (number_behind nexts (i + 1) (get_or nexts i 0) xs) (number_behind nexts (i + 1) h xs)
+
 -- a number of none, or of one of n items from index i on
 abbrev pub From : (i n h : ℕ) → Type 0
 From i n h = (h ≡ 0 → ⊥) → (i < h) × (h ≤ n)
-
--- a chain goes on behind each of n items, so it ends
-abbrev pub Onward : ℕ → List ℕ → Type 0
-Onward n nexts = (j : ℕ) → j < n → From (j + 1) n (get_or nexts j 0)
 
 -- a shared byte as it is, and of a leaf that is not shared
 abbrev pub byte : ℕ → ℕ

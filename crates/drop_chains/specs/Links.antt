@@ -7,7 +7,7 @@ use Rattle.table.specs.Rows.{Found}
 use Rattle.ref_def.specs.Drops.{InLeaf}
 use Rattle.std.specs.declared.ops.Range.{Range}
 use Rattle.drop_chains.specs.declared.Chains.{Chains}
-use Rattle.drop_chains.specs.Chains.{along, From, Onward}
+use Rattle.drop_chains.specs.Chains.{along, number_behind, From}
 
 -- the drops among a list's items, where `dropped` says which are, and those of the extent at `start`
 abbrev pub drops_by : (Fields → Bool) → List InLeaf → List InLeaf
@@ -36,7 +36,6 @@ pub record Blank (rs : List Row) (ds : List InLeaf) (l : Links) : Type 0 where
   pub row_room : length rs ≤ length l.heads
   pub room : length ds ≤ length l.nexts
   pub none : (k : ℕ) → k < length rs → get_or l.heads k 0 ≡ 0
-  pub ends : (j : ℕ) → j < length ds → get_or l.nexts j 0 ≡ 0
   pub low : l.span.start ≡ length rs
   pub high : l.span.end ≡ 0
 
@@ -46,7 +45,7 @@ pub record Linked (dropped : Fields → Bool) (rs : List Row) (ds : List InLeaf)
   pub row_room : length rs ≤ length l.heads
   pub room : length ds ≤ length l.nexts
   pub starts : (k : ℕ) → k < length rs → From i (length ds) (get_or l.heads k 0)
-  pub onward : Onward (length ds) l.nexts
+  pub ended : (k : ℕ) → k < length rs → number_behind l.nexts 0 (get_or l.heads k 0) ds ≡ 0
   pub those : (k : ℕ) (e : Row) → k < length rs → along l.nexts 0 (get_or l.heads k 0) ds ≡ keep (drop_at dropped (get_or rs k e).start) (drop i ds)
   pub low : l.span.start ≤ length rs
   pub high : l.span.end ≤ length rs

@@ -66,7 +66,7 @@ fn put_all(chain: Chain, out: &mut [u64], n: usize) -> usize
 }
 
 // The lines of a chain: releases if its drops free their extent, else unrefs.
-fn put_chain(
+pub fn put_chain(
     references: u64,
     chain: Chain,
     unrefs: &mut [u64],
@@ -113,23 +113,23 @@ impl<'a> Chains<'a> {
     pub fn put_lines(
         &self,
         leaves: Leaves,
-        table: Table,
+        table: &[u64],
         unrefs: &mut [u64],
         releases: &mut [u64],
         at: DropCounts,
     ) -> DropCounts
-        requires { (p : Fields → Bool) × Linked p (rows table.numbers.now) (leaves_of leaves) 0 (links self.now)
-            × (at.unrefs + length (all_unrefs (rows table.numbers.now) (drops_by p (leaves_of leaves))) < 2 ^ 64)
-            × (at.releases + length (all_releases (rows table.numbers.now) (drops_by p (leaves_of leaves))) < 2 ^ 64) }
-        ensures unrefs { (p : Fields → Bool) → Linked p (rows table.entry.numbers.now) (leaves_of leaves.entry) 0 (links self.now)
-            → Laid ref_numbers 2 at.unrefs (all_unrefs (rows table.entry.numbers.now) (drops_by p (leaves_of leaves.entry))) unrefs.old result.unrefs unrefs.new }
-        ensures releases { (p : Fields → Bool) → Linked p (rows table.entry.numbers.now) (leaves_of leaves.entry) 0 (links self.now)
-            → Laid ref_numbers 2 at.releases (all_releases (rows table.entry.numbers.now) (drops_by p (leaves_of leaves.entry))) releases.old result.releases releases.new }
+        requires { (p : Fields → Bool) × Linked p (rows table.now) (leaves_of leaves) 0 (links self.now)
+            × (at.unrefs + length (all_unrefs (rows table.now) (drops_by p (leaves_of leaves))) < 2 ^ 64)
+            × (at.releases + length (all_releases (rows table.now) (drops_by p (leaves_of leaves))) < 2 ^ 64) }
+        ensures unrefs { (p : Fields → Bool) → Linked p (rows table.now) (leaves_of leaves.entry) 0 (links self.now)
+            → Laid ref_numbers 2 at.unrefs (all_unrefs (rows table.now) (drops_by p (leaves_of leaves.entry))) unrefs.old result.unrefs unrefs.new }
+        ensures releases { (p : Fields → Bool) → Linked p (rows table.now) (leaves_of leaves.entry) 0 (links self.now)
+            → Laid ref_numbers 2 at.releases (all_releases (rows table.now) (drops_by p (leaves_of leaves.entry))) releases.old result.releases releases.new }
     {
         let mut counts = at;
         // k picks the row and the head of its chain.
         for k in self.span.start..self.span.end {
-            let row = table::row_at(table.numbers, k);
+            let row = table::row_at(table, k);
             let number = self.heads[k] as usize;
             let nexts = &self.nexts[..];
             let chain = Chain {

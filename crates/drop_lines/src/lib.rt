@@ -207,7 +207,7 @@ fn put_sized<const N: usize>(
         span: table.numbers.len() / table::WIDTH..0,
     };
     link(c, leaves, table, &mut chains);
-    chains.put_lines(leaves, table, unrefs, releases, at)
+    chains.put_lines(leaves, table.numbers, unrefs, releases, at)
 }
 
 // A line for each drop: a release if its extent is released, else an unref; each by extent start, then in list order. That the

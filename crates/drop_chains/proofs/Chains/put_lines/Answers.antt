@@ -14,21 +14,21 @@ use Rattle.drop_chains.proofs.Links.{row_chain, releases_chained, unrefs_chained
 use Rattle.drop_chains.proofs.Chains.put_lines.Goals as goal
 
 pub loop-k-init : goal.loop-k-init
-loop-k-init c = λ p l. let t = c.args.table.numbers.now in
+loop-k-init c = λ p l. let t = c.args.table.now in
     let ds = leaves_of c.args.leaves in
     (span-first p t ds _ l unref_lines no_unref ref_numbers 2 _ _, span-first p t ds _ l release_lines no_release ref_numbers 2 _ _)
 
 pub row_at-row-requires : goal.row_at-row-requires
-row_at-row-requires c = omega (arith, c.loop-k-test.true, c.requires.1.high, rows-length c.args.table.numbers.now)
+row_at-row-requires c = omega (arith, c.loop-k-test.true, c.requires.1.high, rows-length c.args.table.now)
 
 pub invariant_of-chain : goal.invariant_of-chain
 invariant_of-chain c = let l = c.requires.1 in
     let m = leaves_many c.args.leaves in
-    let h : c.loop-k.k < length (rows c.args.table.numbers.now) = omega (arith, c.loop-k-test.true, l.high) in
-    record { room = omega (arith, l.room, m); inside = rw m at (l.starts c.loop-k.k h); onward = rw m at l.onward }
+    let h : c.loop-k.k < length (rows c.args.table.now) = omega (arith, c.loop-k-test.true, l.high) in
+    record { room = omega (arith, l.room, m); ended = l.ended c.loop-k.k h }
 
 pub put_chain-counts-requires : goal.put_chain-counts-requires
-put_chain-counts-requires c = let t = c.args.table.numbers.now in
+put_chain-counts-requires c = let t = c.args.table.now in
     let p = c.requires.0 in
     let l = c.requires.1 in
     let ds = leaves_of c.args.leaves in
@@ -41,7 +41,7 @@ put_chain-counts-requires c = let t = c.args.table.numbers.now in
     )
 
 pub loop-k-preserved : goal.loop-k-preserved
-loop-k-preserved c = λ p l. let t = c.args.table.numbers.now in
+loop-k-preserved c = λ p l. let t = c.args.table.now in
     let ds = leaves_of c.args.leaves in
     let h : c.loop-k.k < length t / 5 = omega (arith, c.loop-k-test.true, l.high, rows-length t) in
     let i = c.loop-k.invariant p l in
@@ -49,11 +49,11 @@ loop-k-preserved c = λ p l. let t = c.args.table.numbers.now in
     (flat_turn ref_numbers 2 (row_chain unref_lines p ds) row_of 5 _ _ _ _ _ _ _ _ _ h c.row_at-row.ensures i.0 _ _ (rw q at c.put_chain-counts.ensures.unrefs), flat_turn ref_numbers 2 (row_chain release_lines p ds) row_of 5 _ _ _ _ _ _ _ _ _ h c.row_at-row.ensures i.1 _ _ (rw q at c.put_chain-counts.ensures.releases))
 
 pub returns-clause-unrefs : goal.returns-clause-unrefs
-returns-clause-unrefs c = λ p l. let t = c.args.table.numbers.now in
+returns-clause-unrefs c = λ p l. let t = c.args.table.now in
     let ds = leaves_of c.args.leaves in
     laid_same ref_numbers 2 _ _ _ _ _ _ (unrefs_chained p ds (rows t)) (span-done p t ds _ l unref_lines no_unref ref_numbers 2 _ _ _ _ _ _ c.loop-k-test.false (c.loop-k.invariant p l).0)
 
 pub returns-clause-releases : goal.returns-clause-releases
-returns-clause-releases c = λ p l. let t = c.args.table.numbers.now in
+returns-clause-releases c = λ p l. let t = c.args.table.now in
     let ds = leaves_of c.args.leaves in
     laid_same ref_numbers 2 _ _ _ _ _ _ (releases_chained p ds (rows t)) (span-done p t ds _ l release_lines no_release ref_numbers 2 _ _ _ _ _ _ c.loop-k-test.false (c.loop-k.invariant p l).1)

@@ -20,9 +20,9 @@ abbrev pub Left : (ℕ → List InLeaf → List Ref) → (Fields → Bool) → L
 Left kind p ds table n₀ out₀ n k out = Going ref_numbers 2 n₀ (flat_map (row_chain kind p ds) (rows table)) out₀ n (flat_map (row_chain kind p ds) (rest row_of 5 table (length table / 5) k)) out
 
 abbrev pub invariant-loop-k : goal.invariant-loop-k
-invariant-loop-k l = (p : Fields → Bool) → Linked p (rows l.table.numbers.now) (leaves_of l.leaves) 0 (links l.self)
-    → Left unref_lines p (leaves_of l.leaves) l.table.numbers.now l.initial.counts.unrefs l.initial.unrefs l.counts.unrefs l.k l.unrefs
-    × Left release_lines p (leaves_of l.leaves) l.table.numbers.now l.initial.counts.releases l.initial.releases l.counts.releases l.k l.releases
+invariant-loop-k l = (p : Fields → Bool) → Linked p (rows l.table) (leaves_of l.leaves) 0 (links l.self)
+    → Left unref_lines p (leaves_of l.leaves) l.table l.initial.counts.unrefs l.initial.unrefs l.counts.unrefs l.k l.unrefs
+    × Left release_lines p (leaves_of l.leaves) l.table l.initial.counts.releases l.initial.releases l.counts.releases l.k l.releases
 
 abbrev pub decreases-loop-k : goal.decreases-loop-k
 decreases-loop-k l = l.k-end - l.k
