@@ -14,7 +14,7 @@ use Rattle.ref_def.proofs.Drops.{leaves-length}
 use Rattle.drop_chains.specs.declared.chain.Chain.{Chain}
 use Rattle.drop_chains.specs.Chains.{along, number_behind, From}
 use Rattle.drop_chains.specs.Reading.{leaf, left}
-use Rattle.drop_chains.proofs.Walks.{along_nil, along_at, along_few, behind_from, behind_on}
+use Rattle.drop_chains.proofs.Walks.{along_nil, along_at, along_few, behind_on}
 
 -- how many items there are
 pub leaves_many : (l : Leaves) → length (leaves_of l) ≡ length l.shared.now
@@ -46,7 +46,7 @@ left_none c e = rw e (along_nil c.nexts.now (leaves_of c.leaves) 0)
 
 module _ (c : Chain) (n : c.number ≡ 0 → ⊥) where
   pub number_in : c.number - 1 < length c.leaves.shared.now
-  number_in = let y = behind_from c.nexts.now (leaves_of c.leaves) 0 c.number c.ended n in omega (arith, y.0, y.1, leaves_many c.leaves)
+  number_in = omega (arith, (c.inside n).1)
 
   here : c.number ≡ c.number - 1 + 1
   here = omega arith
@@ -56,6 +56,9 @@ module _ (c : Chain) (n : c.number ≡ 0 → ⊥) where
   goes_on =
       behind_on c.nexts.now (leaves_of c.leaves) (c.number - 1) no_leaf (omega (arith, number_in, leaves_many c.leaves))
       (ap (λ (h : ℕ). number_behind c.nexts.now 0 h (leaves_of c.leaves)) (sym here) ∙ c.ended)
+
+  pub inside_on : From 0 (length c.leaves.shared.now) (get_or c.nexts.now (c.number - 1) 0)
+  inside_on z = let y = goes_on.0 z in (omega (arith, y.0), omega (arith, y.1, leaves_many c.leaves))
 
   pub ended_on : number_behind c.nexts.now 0 (get_or c.nexts.now (c.number - 1) 0) (leaves_of c.leaves) ≡ 0
   ended_on = goes_on.1

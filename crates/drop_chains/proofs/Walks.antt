@@ -96,7 +96,7 @@ module _ {A : Type 0} where
   behind_skip nexts (x ∷ l) (suc k) i m h e n = behind_no nexts i h x l (λ q. let y = n (λ z. omega arith) in omega arith) ∙ behind_skip nexts l k (i + 1) m h (omega arith) n
 
   -- a chain that ends behind them is none, or starts at one of them
-  pub behind_from : (nexts : List ℕ) (l : List A) (i h : ℕ) → number_behind nexts i h l ≡ 0 → From i (i + length l) h
+  behind_from : (nexts : List ℕ) (l : List A) (i h : ℕ) → number_behind nexts i h l ≡ 0 → From i (i + length l) h
   unfolding number_behind
   behind_from nexts [] i h e z = absurd (z e)
   behind_from nexts (x ∷ l) i h e z = elim (ℕ_discrete h (i + 1)) [

@@ -2,7 +2,7 @@
 
 ghost use Rattle.std.specs.Prelude.{◌≡◌, ◌≤◌, length};
 ghost use Rattle.ref_def.specs.Lent.{leaves_of};
-ghost use Rattle.drop_chains.specs.Chains.{number_behind};
+ghost use Rattle.drop_chains.specs.Chains.{From, number_behind};
 
 use item::{Item, item_at};
 use ref_def::Leaves;
@@ -14,6 +14,7 @@ pub struct Chain<'a> {
     pub nexts: &'a [u32],
     pub number: usize,
     ghost room: { length leaves.shared.now ≤ length nexts.now },
+    ghost inside: { From 0 (length leaves.shared.now) number },
     ghost ended: { number_behind nexts.now 0 number (leaves_of leaves) ≡ 0 },
 }
 

@@ -25,7 +25,7 @@ pub invariant_of-chain : goal.invariant_of-chain
 invariant_of-chain c = let l = c.requires.1 in
     let m = leaves_many c.args.leaves in
     let h : c.loop-k.k < length (rows c.args.table.now) = omega (arith, c.loop-k-test.true, l.high) in
-    record { room = omega (arith, l.room, m); ended = l.ended c.loop-k.k h }
+    record { room = omega (arith, l.room, m); inside = rw m at (l.starts c.loop-k.k h); ended = l.ended c.loop-k.k h }
 
 pub put_chain-counts-requires : goal.put_chain-counts-requires
 put_chain-counts-requires c = let t = c.args.table.now in
