@@ -4,3 +4,4 @@ pub mod Holes
 pub mod Planned
 pub mod Fair
 pub mod Shown
+pub mod Outcomes

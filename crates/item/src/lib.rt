@@ -158,7 +158,14 @@ impl Item {
     pub fn of_kind(self, kind: Kind) -> Self
         ensures { fields result ≡ of_kind (fields self) (byte_of kind) }
     {
-        self.with_num(Self::TYPE, 1, kind.byte() as u64)
+        self.of_kind_byte(kind.byte())
+    }
+
+    // The same by its byte on disk, of which more are than there are kinds.
+    pub fn of_kind_byte(self, kind: u8) -> Self
+        ensures { fields result ≡ of_kind (fields self) kind }
+    {
+        self.with_num(Self::TYPE, 1, kind as u64)
     }
 
     // A part of a preallocated item, written where it lies.
