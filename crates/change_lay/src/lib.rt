@@ -81,20 +81,11 @@ impl<'a> Started<'a> {
         }
     }
 
-    // The edits of its plan, with the pieces of holes among them, and its byte count without them: `pieces` are the numbers of the
-    // adds that the pieces are read from. The adds are only read, but lent as a `&mut`: a `&` of one field beside a `&mut` of
-    // another is not covered.
-    fn lay_edits(
-        self,
-        at: Places,
-        pieces: Range<usize>,
-        adds: &mut [u64],
-        edits: &mut [u8],
-    ) -> Edited
-        requires inside { (pieces.start ≤ pieces.end) × (pieces.end ≤ length adds.old) }
-        requires pieced { Pieced (items_in self.begun.base) (items_of (after_at self.begun at)) (new_pieces self.begun (slice_range adds.old pieces.start pieces.end)) }
-        ensures laid { EditsLaid self.entry.begun.base.file.number (edits_at self.entry.begun at (slice_range adds.old pieces.start pieces.end)) (plan_at self.entry.begun at).bytes result edits.old edits.new }
-        ensures same { adds.new ≡ adds.old }
+    // The edits of its plan, with the pieces of holes among them, and its byte count without them: the pieces are read from these
+    // numbers of adds.
+    fn lay_edits(self, at: Places, pieces: &[u64], edits: &mut [u8]) -> Edited
+        requires { Pieced (items_in self.begun.base) (items_of (after_at self.begun at)) (new_pieces self.begun pieces.now) }
+        ensures { EditsLaid self.entry.begun.base.file.number (edits_at self.entry.begun at pieces.now) (plan_at self.entry.begun at).bytes result edits.old edits.new }
     {
         let mut seg = [0u8; 420];
         let b = self.begun;
@@ -102,13 +93,30 @@ impl<'a> Started<'a> {
         let file = b.base.file.number;
         let generation = b.base.volume.generation + 1;
         Edited {
-            edits: change_lines::put_changes(m, file, generation, &adds[pieces], edits),
+            edits: change_lines::put_changes(m, file, generation, pieces, edits),
             bytes: change_lines::bytes_after(m),
         }
     }
 
-    // The plan laid over the outputs, but for its adds, and its numbers: its two sectors at these places, and `pieces` the numbers
-    // of the adds that the pieces of holes are read from.
+    // The plan laid over the outputs, but for its adds, which may be of no length, and its numbers: its two sectors at these places,
+    // and the pieces of holes read from these numbers of adds, wherever they lie.
+    pub fn lay_pieces(self, at: Places, pieces: &[u64], out: &mut Outputs) -> Counts
+        requires { Pieced (items_in self.begun.base) (items_of (after_at self.begun at)) (new_pieces self.begun pieces.now) }
+        ensures laid { PlanLaid self.entry.begun.base.file.number (plan_at self.entry.begun at) (edits_at self.entry.begun at pieces.now) result (outs_in out.old) (outs_in out.new) }
+        ensures kept { Kept out.old out.new }
+    {
+        let refs = self.lay_refs(out.shares, out.unrefs, out.releases);
+        let edits = self.lay_edits(at, pieces, out.edits);
+        let writes = change_lines::put_writes(self.begun.range, self.begun.parts, at, out.writes);
+        Counts {
+            refs,
+            edits,
+            writes,
+        }
+    }
+
+    // The same with the pieces of holes read from the adds that are lent: `pieces` are the numbers of those. The adds are taken out
+    // for the call: a `&` of one field beside a `&mut` of another is not covered.
     pub fn lay_plan(self, at: Places, pieces: Range<usize>, out: &mut Outputs) -> Counts
         requires inside { (pieces.start ≤ pieces.end) × (pieces.end ≤ length out.old.adds.now) }
         requires pieced { Pieced (items_in self.begun.base) (items_of (after_at self.begun at)) (new_pieces self.begun (slice_range out.old.adds.now pieces.start pieces.end)) }
@@ -116,13 +124,9 @@ impl<'a> Started<'a> {
             result (outs_in out.old) (outs_in out.new) }
         ensures kept { Kept out.old out.new }
     {
-        let refs = self.lay_refs(out.shares, out.unrefs, out.releases);
-        let edits = self.lay_edits(at, pieces, out.adds, out.edits);
-        let writes = change_lines::put_writes(self.begun.range, self.begun.parts, at, out.writes);
-        Counts {
-            refs,
-            edits,
-            writes,
-        }
+        let adds = std::mem::take(&mut out.adds);
+        let counts = self.lay_pieces(at, &adds[pieces], out);
+        out.adds = adds;
+        counts
     }
 }

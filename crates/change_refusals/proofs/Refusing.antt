@@ -12,12 +12,16 @@ use Rattle.records.specs.Stages.{whenever, first, first_of, stage}
 use Rattle.records.specs.Select.{keep}
 use Rattle.records.proofs.Tests.{first_go, first_last}
 use Rattle.item.specs.Items.{Fields, items}
+use Rattle.table.specs.declared.Row.{Row}
 use Rattle.table.specs.Rows.{one_more_reference}
+use Rattle.request.specs.declared.Volume.{Volume}
+use Rattle.request.specs.declared.File.{File}
 use Rattle.cut_def.specs.Cuts.{split}
 use Rattle.cut_def.specs.Refs.{Ref, ref_of}
+use Rattle.cut_segment.specs.declared.Running.{Running}
 use Rattle.cut_segment.specs.declared.remade.Remade.{Remade}
 use Rattle.cut_segment.specs.Remade.{taken_of, made_of}
-use Rattle.ref_def.specs.Drops.{drops_refusal}
+use Rattle.ref_def.specs.Drops.{in_leaves, drops_refusal}
 use Rattle.ref_def.proofs.Drops.{leaves-items}
 use Rattle.drop_lines.specs.declared.Cut.{Cut}
 use Rattle.drop_lines.specs.Dropped.{drops_in}
@@ -25,10 +29,13 @@ use Rattle.plan_def.specs.Outputs.{ref_numbers}
 use Rattle.plan_lines.specs.Lines.{Laid}
 use Rattle.ref_compare.specs.Next.{ref_line}
 use Rattle.ref_compare.proofs.Laws.{laid_read}
-use Rattle.change_def.specs.Rewrites.{Ground, leaf_items, rewrite_refusal}
+use Rattle.change_def.specs.declared.RangeChange.{RangeChange}
+use Rattle.change_def.specs.Rewrites.{Ground, ground_of as ground_from, leaf_items, rewrite_refusal}
 use Rattle.change_def.specs.Changes.{Change, shares_compared, drops, change_refusal}
+use Rattle.change_def.specs.Raw.{change_of}
 use Rattle.change_ground.specs.Lent.{items_in, leaves_in, rows_in}
-use Rattle.change_segment.specs.Raw.{MadeOf}
+use Rattle.change_segment.specs.declared.Parts.{Parts}
+use Rattle.change_segment.specs.Raw.{Parting, MadeOf}
 use Rattle.change_segment.specs.Sides.{joined_pieces, cut_of, middle, compared_of}
 use Rattle.change_segment.proofs.Planned.{shares-most, shared_same, drops_same}
 use Rattle.change_lines.proofs.Spans.{made-most}
@@ -42,19 +49,17 @@ unfolding stage first
 sides_stage t (Some x) b = ap (λ (n : ℕ). first n (stage t (option_to_list b))) (sym (first_last (t x)))
 sides_stage t None b = refl
 
-module _ (b : Begun) where
-  abbrev fs : List Fields
-  fs = items_in b.base
+-- refusals 14 and 15 of references: none may have one more
+abbrev one_more : List Row → List Ref → ℕ
+one_more rows = stage (λ (q : Ref). one_more_reference q.start rows)
 
-  abbrev shared : List ℕ
-  shared = b.base.leaves.shared.now
+-- ---- shares, read from their lines
 
-  abbrev more : List Ref → ℕ
-  more = stage (λ (q : Ref). one_more_reference q.start (rows_in b.base))
+module _ (v : Volume) (c : RangeChange) (p : Parts) (list : Running) where
+  abbrev those : List Fields
+  those = items list.records.now
 
-  -- ---- shares, read from their lines
-
-  module _ (m : Remade) (made : MadeOf (joined_pieces b.base.volume b.range b.parts fs) b.range.lo b.range.hi 4 b.base.leaves.list m) (k : Cut) where
+  module _ (m : Remade) (made : MadeOf (joined_pieces v c p those) c.lo c.hi 4 list m) (k : Cut) where
     abbrev compared : List Ref
     compared = compared_of k (taken_of m) (made_of m)
 
@@ -71,15 +76,28 @@ module _ (b : Begun) where
           rw e.output
           (laid_read compared out (n * 2) (omega (arith, shares-few)) (omega (arith, e.lines)))
 
-      pub shares-told : length out ≡ 8 → k ≡ cut_of b.range b.parts → more (records ref_line 2 (take (n * 2) out')) ≡ more (shares_compared (ground_of b) (change_in b))
-      shares-told room ek =
-          let list_is : items m.list.records.now ≡ fs = ap (λ l. items l.records.now) made.list in
-          ap more
+      pub shares-told :
+          length out ≡ 8 → k ≡ cut_of c p
+          → (rows : List Row) (f : File) (shared : List ℕ) → Parting (in_leaves those shared) c p → length shared ≡ length those
+          → one_more rows (records ref_line 2 (take (n * 2) out')) ≡ one_more rows (shares_compared (ground_from v f those shared rows) (change_of c f.size))
+      shares-told room ek rows f shared part one =
+          let list_is : items m.list.records.now ≡ those = ap (λ l. items l.records.now) made.list in
+          ap (one_more rows)
           (shares_read room
           ∙ ap₂ (λ (q : Cut) (f : List Fields). compared_of q (middle f m.segment) (made_of m)) ek list_is
-          ∙ sym (shared_same b.base.volume b.base.file b.range b.parts fs shared (rows_in b.base) b.parting b.base.leaves.one_each m.segment (made_of m) m.good.order made.made.same))
+          ∙ sym (shared_same v f c p those shared rows part one m.segment (made_of m) m.good.order made.made.same))
 
-  -- ---- all
+-- ---- all
+
+module _ (b : Begun) where
+  abbrev fs : List Fields
+  fs = items_in b.base
+
+  abbrev shared : List ℕ
+  shared = b.base.leaves.shared.now
+
+  abbrev more : List Ref → ℕ
+  more = one_more (rows_in b.base)
 
   abbrev g : Ground
   g = ground_of b

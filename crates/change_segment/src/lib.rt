@@ -18,6 +18,7 @@ use change_ground::Ground;
 use change_rewrites::InPlace;
 use cut_segment::{Making, Remade, Running, RunningLeaves};
 use item::Item;
+use request::Volume;
 
 // Those of a change's two sectors that preallocated items hold: they are written in place.
 #[derive(Clone, Copy)]
@@ -91,17 +92,32 @@ fn written<'a>(
     m
 }
 
-// What the change makes of the list, with no place taken.
+// What a change makes of a list, with no place taken. No item is then put in that takes a new extent, so the stamp's file means
+// nothing.
+pub fn joined_of_list<'a>(
+    v: Volume,
+    list: Running<'a>,
+    c: RangeChange,
+    p: Parts,
+    seg: &'a mut [u8],
+) -> Remade<'a>
+    requires { Ready v c p × (280 ≤ length seg.old) }
+    ensures { MadeOf (joined_pieces v c p (items list.entry.records.now)) c.lo c.hi 4 list.entry result }
+{
+    let t = Stamp {
+        file: 0,
+        generation: v.generation + 1,
+        sector: v.sector,
+    };
+    written(list, c, p, t, seg).read()
+}
+
+// The same of what a change goes by.
 pub fn joined_segment<'a>(g: Ground<'a>, c: RangeChange, p: Parts, seg: &'a mut [u8]) -> Remade<'a>
     requires { Ready g.volume c p × (280 ≤ length seg.old) }
     ensures { MadeOf (joined_pieces g.entry.volume c p (items_in g.entry)) c.lo c.hi 4 g.entry.leaves.list result }
 {
-    let t = Stamp {
-        file: g.file.number,
-        generation: g.volume.generation + 1,
-        sector: g.volume.sector,
-    };
-    written(g.leaves.list, c, p, t, seg).read()
+    joined_of_list(g.volume, g.leaves.list, c, p, seg)
 }
 
 // The item over a sector that takes a new extent, put in, if there is one.
