@@ -9,6 +9,7 @@ use Rattle.read_field.specs.Decimal.{digits, value, plain}
 use Rattle.read_field.specs.Words.{bytes, starts}
 use Rattle.read_field.specs.Parts.{Part, more, into, numbers, end}
 use Rattle.read_field.specs.Fields.{one, two, fields}
+use Rattle.read_field.specs.Raw.{or_kept, read_over, field_over}
 
 -- what was read: how many bytes are left, and the numbers; nothing for an unreadable text
 abbrev seen : Option Part → List ℕ
@@ -51,3 +52,20 @@ all_right = refl
 -- a line's end
 ends : map seen (end [] ∷ end (41 ∷ []) ∷ []) ≡ (0 ∷ []) ∷ [] ∷ []
 ends = refl
+
+-- what two places that held 7 and 8 hold when a field was read over them
+abbrev over_cases : List (String × List ℕ)
+over_cases =
+    (" (key 1 2)", 1 ∷ 2 ∷ [])
+    ∷ (" (key 1 2", 1 ∷ 2 ∷ [])
+    ∷ (" (key 1)", 1 ∷ 0 ∷ [])
+    ∷ (" (key 1 10)", 1 ∷ 0 ∷ [])
+    ∷ (" (key 10 2)", 0 ∷ 0 ∷ [])
+    ∷ (" (keys 1 2)", 0 ∷ 0 ∷ [])
+    ∷ (" (size 1 2)", 7 ∷ 8 ∷ [])
+    ∷ ("", 7 ∷ 8 ∷ [])
+    ∷ []
+
+over_right : map (λ (c : String × List ℕ). field_over (bytes " (key") 9 (7 ∷ 8 ∷ []) (bytes c.0)) over_cases ≡ map (λ (c : String × List ℕ). c.1) over_cases
+unfolding digits value plain starts more into or_kept read_over
+over_right = refl

@@ -3,6 +3,7 @@ pub mod WordExamples
 pub mod Runs
 pub mod NumberExamples
 pub mod Steps
+pub mod Over
 pub mod Several
 pub mod Limits
 pub mod FieldExamples

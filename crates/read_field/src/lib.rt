@@ -6,7 +6,7 @@ ghost use Rattle.std.specs.Prelude.{◌≡◌, ◌≤◌, ◌^◌, [], length, t
 ghost use Rattle.std.specs.List.{prefix_len};
 ghost use Rattle.read_field.specs.Decimal.{is_digit, plain, value};
 ghost use Rattle.read_field.specs.Parts.{word, number, numbers};
-ghost use Rattle.read_field.specs.Raw.{part, counted, field_by, total, fields_by};
+ghost use Rattle.read_field.specs.Raw.{part, counted, read_over, field_by, field_over, total, fields_by};
 
 // The text behind a fixed word.
 #[tactic(auto, using(crate::proofs::Steps::word_is))]
@@ -65,10 +65,12 @@ pub fn number(s: &[u8], limit: u64) -> Option<(u64, &[u8])>
     Some((n, rest))
 }
 
-// Numbers with one limit, each behind one space: as many as there are places for them.
+// Numbers with one limit, each behind one space: as many as there are places for them. From the first that can't be read on, the
+// places stay as they were.
 #[tactic(auto, using(crate::proofs::Steps::places_laws))]
 pub fn numbers<'a>(s: &'a [u8], places: &mut [u64], limit: u64) -> Option<&'a [u8]>
-    ensures { part places.new result ≡ numbers (replicate (length places.old) limit) s.now }
+    ensures read { part places.new result ≡ numbers (replicate (length places.old) limit) s.now }
+    ensures over { places.new ≡ read_over limit places.old s.now }
 {
     let mut rest = s;
     for place in places.iter_mut() {
@@ -77,6 +79,15 @@ pub fn numbers<'a>(s: &'a [u8], places: &mut [u64], limit: u64) -> Option<&'a [u
         rest = behind;
     }
     Some(rest)
+}
+
+// The same; from the first that can't be read on, the places are 0.
+pub fn numbers_told<'a>(s: &'a [u8], places: &mut [u64], limit: u64) -> Option<&'a [u8]>
+    ensures read { part places.new result ≡ numbers (replicate (length places.old) limit) s.now }
+    ensures over { places.new ≡ read_over limit (replicate (length places.old) 0) s.now }
+{
+    places.fill(0);
+    numbers(s, places, limit)
 }
 
 // A field: how it opens, how many numbers it has, and their limit.
@@ -94,6 +105,18 @@ impl Field<'_> {
             return Some(s);
         };
         word(numbers(inside, places, self.2)?, b")")
+    }
+
+    // Its numbers; where it isn't there the places stay as they were. Those of its numbers that can't be read are 0.
+    #[tactic(auto, using(crate::proofs::Steps::field_laws, crate::proofs::Over::field_over_laws))]
+    pub fn read_over<'a>(&self, s: &'a [u8], places: &mut [u64]) -> Option<&'a [u8]>
+        ensures read { part places.new result ≡ field_by self.now.0.now (replicate (length places.old) self.now.2) places.old s.now }
+        ensures over { places.new ≡ field_over self.now.0.now self.now.2 places.old s.now }
+    {
+        match word(s, self.0) {
+            Some(inside) => word(numbers_told(inside, places, self.2)?, b")"),
+            None => Some(s),
+        }
     }
 }
 
