@@ -13,7 +13,7 @@ use Rattle.table.specs.declared.Row.{Row}
 use Rattle.table.proofs.Samples.{sample_row}
 use Rattle.ref_def.specs.Drops.{InLeaf}
 use Rattle.drop_chains.specs.Chains.{along, number_behind, From}
-use Rattle.drop_chains.specs.Links.{drop_at, Links, Linked}
+use Rattle.drop_chains.specs.Links.{drop_at, Links, Chained}
 
 -- an item of the row's extent that stays, and one that is dropped
 abbrev leaf_at : (key : ℕ) → InLeaf
@@ -32,7 +32,7 @@ dropped f = eqb f.key 8192
 abbrev chained : Links
 chained = record { heads = 2 ∷ []; nexts = 7 ∷ 0 ∷ []; span = record { start = 0; end = 1 } }
 
-pub any_number : Linked dropped table both 0 chained
+pub any_number : Chained dropped table both 0 chained
 unfolding number_behind along keep
 any_number =
     record {

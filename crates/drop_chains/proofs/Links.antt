@@ -28,9 +28,9 @@ use Rattle.ref_def.specs.declared.Leaves.{Leaves}
 use Rattle.plan_lines.specs.Lines.{Laid}
 use Rattle.plan_lines.proofs.Laws.{Going, going_first, going_done}
 use Rattle.std.specs.declared.ops.Range.{Range}
-use Rattle.drop_chains.specs.Chains.{along, number_behind, From, byte_in, freed, line_in, unref_lines, release_lines}
-use Rattle.drop_chains.specs.Links.{drops_by, drop_at, Links, linked, Blank, Linked}
-use Rattle.drop_chains.proofs.Walks.{along_nil, along_at, along_set, behind_nil, behind_set, behind_put, freed_released}
+use Rattle.drop_chains.specs.Chains.{along, number_behind, From, Onward, byte_in, freed, line_in, unref_lines, release_lines}
+use Rattle.drop_chains.specs.Links.{drops_by, drop_at, Links, linked, Headless, Blank, Chained, Linked}
+use Rattle.drop_chains.proofs.Walks.{along_nil, along_at, along_set, behind_nil, behind_ends, behind_set, behind_put, freed_released}
 use Rattle.drop_chains.proofs.Reading.{leaves_many, leaves_here}
 
 -- ---- which row a drop is of
@@ -64,7 +64,7 @@ module _ (dropped : Fields → Bool) (rs : List Row) (kept : table_kept rs ≡ t
 
 module _
     (dropped : Fields → Bool) (rs : List Row) (ds : List InLeaf) (i : ℕ) (l : Links)
-    (done : Linked dropped rs ds (i + 1) l) (h : i < length ds) (d : InLeaf) (e : (x : InLeaf) → get_or ds i x ≡ d) where
+    (done : Chained dropped rs ds (i + 1) l) (h : i < length ds) (d : InLeaf) (e : (x : InLeaf) → get_or ds i x ≡ d) where
   next_here : drop i ds ≡ d ∷ drop (i + 1) ds
   next_here = drop-cons ds i d h ∙ rw (e d, add-one) refl
 
@@ -77,8 +77,8 @@ module _
   kept_yes start n = ap (keep (drop_at dropped start)) next_here ∙ rw n refl
 
   -- no row's drop
-  linked_skip : ((k : ℕ) (x : Row) → k < length rs → drop_at dropped (get_or rs k x).start d ≡ false) → Linked dropped rs ds i l
-  linked_skip skips =
+  chained_skip : ((k : ℕ) (x : Row) → k < length rs → drop_at dropped (get_or rs k x).start d ≡ false) → Chained dropped rs ds i l
+  chained_skip skips =
       record {
         few = done.few;
         row_room = done.row_room;
@@ -93,13 +93,13 @@ module _
       }
 
   -- not dropped
-  pub linked_kept : dropped d.item ≡ false → Linked dropped rs ds i l
-  linked_kept z = linked_skip (λ k x m. rw z refl)
+  pub chained_kept : dropped d.item ≡ false → Chained dropped rs ds i l
+  chained_kept z = chained_skip (λ k x m. rw z refl)
 
   module _ (kept : table_kept rs ≡ true) (t : dropped d.item ≡ true) where
     -- put before the chain of row r
-    linked_put : (r : ℕ) (row : Row) → Some (r, row) ≡ find d.item.extent_start rs → Linked dropped rs ds i (linked (Some (r, row)) i l)
-    linked_put r row f =
+    chained_put : (r : ℕ) (row : Row) → Some (r, row) ≡ find d.item.extent_start rs → Chained dropped rs ds i (linked (Some (r, row)) i l)
+    chained_put r row f =
         record {
           few = done.few;
           row_room = rw length-set done.row_room;
@@ -150,27 +150,27 @@ module _
         next-at = get_or-set_same l.nexts i h₀ 0 (omega (arith, done.room))
 
     -- put before the chain of its row, if it has one
-    pub linked_drop : (o : Found) → o ≡ find d.item.extent_start rs → Linked dropped rs ds i (linked o i l)
-    linked_drop (Some (r, row)) f = linked_put r row f
-    linked_drop None f = linked_skip (of_none dropped rs kept d f)
+    pub chained_drop : (o : Found) → o ≡ find d.item.extent_start rs → Chained dropped rs ds i (linked o i l)
+    chained_drop (Some (r, row)) f = chained_put r row f
+    chained_drop None f = chained_skip (of_none dropped rs kept d f)
 
 -- a turn of a loop over a list's items, from the last to the first: item i is the next, and those from m on are chained
 module _
-    (dropped : Fields → Bool) (t : Table) (leaves : Leaves) (m i : ℕ) (l : Links) (n : m ≡ i + 1) (done : Linked dropped (rows t.numbers.now) (leaves_of leaves) m l)
+    (dropped : Fields → Bool) (t : Table) (leaves : Leaves) (m i : ℕ) (l : Links) (n : m ≡ i + 1) (done : Chained dropped (rows t.numbers.now) (leaves_of leaves) m l)
     (h : i < length leaves.shared.now) (item : Item) (q : item ≡ item_of (drop (i * 70) leaves.list.now)) (b : Bool) (e : b ≡ dropped (fields item)) where
-  pub turn_kept : b ≡ false → Linked dropped (rows t.numbers.now) (leaves_of leaves) i l
-  turn_kept z = linked_kept dropped (rows t.numbers.now) (leaves_of leaves) i l (rw n at done) (omega (arith, leaves_many leaves)) _ (λ x. leaves_here leaves i x item h q) (sym e ∙ z)
+  pub chained_turn_kept : b ≡ false → Chained dropped (rows t.numbers.now) (leaves_of leaves) i l
+  chained_turn_kept z = chained_kept dropped (rows t.numbers.now) (leaves_of leaves) i l (rw n at done) (omega (arith, leaves_many leaves)) _ (λ x. leaves_here leaves i x item h q) (sym e ∙ z)
 
-  pub turn_linked : b ≡ true → (l' : Links) → l' ≡ linked (find (fields item).extent_start (rows t.numbers.now)) i l → Linked dropped (rows t.numbers.now) (leaves_of leaves) i l'
-  turn_linked z l' u =
-      rw u (linked_drop dropped (rows t.numbers.now) (leaves_of leaves) i l (rw n at done) (omega (arith, leaves_many leaves)) _ (λ x. leaves_here leaves i x item h q) t.kept (sym e ∙ z) _ refl)
+  pub chained_turn_linked : b ≡ true → (l' : Links) → l' ≡ linked (find (fields item).extent_start (rows t.numbers.now)) i l → Chained dropped (rows t.numbers.now) (leaves_of leaves) i l'
+  chained_turn_linked z l' u =
+      rw u (chained_drop dropped (rows t.numbers.now) (leaves_of leaves) i l (rw n at done) (omega (arith, leaves_many leaves)) _ (λ x. leaves_here leaves i x item h q) t.kept (sym e ∙ z) _ refl)
 
 -- ---- before the first item is put in
 
 -- no item is chained yet
-pub linked_first : (dropped : Fields → Bool) (rs : List Row) (ds : List InLeaf) (i : ℕ) (l : Links) → Blank rs ds l → length ds ≤ i → Linked dropped rs ds i l
+pub chained_first : (dropped : Fields → Bool) (rs : List Row) (ds : List InLeaf) (i : ℕ) (l : Links) → Headless rs ds l → length ds ≤ i → Chained dropped rs ds i l
 unfolding keep
-linked_first dropped rs ds i l b h =
+chained_first dropped rs ds i l b h =
     record {
       few = b.few;
       row_room = b.row_room;
@@ -185,9 +185,9 @@ linked_first dropped rs ds i l b h =
     }
 
 -- arrays of n zeros
-pub blank : (n : ℕ) (t : List ℕ) (l : Leaves) (s : Range ℕ) → n ≤ 65536 → length t / 5 ≤ n → length l.list.now / 70 ≤ n → s.start ≡ length t / 5 → s.end ≡ 0
-    → Blank (rows t) (leaves_of l) (record { heads = replicate n 0; nexts = replicate n 0; span = s })
-blank n t l s h r f a b =
+pub headless : (n : ℕ) (t : List ℕ) (l : Leaves) (s : Range ℕ) → n ≤ 65536 → length t / 5 ≤ n → length l.list.now / 70 ≤ n → s.start ≡ length t / 5 → s.end ≡ 0
+    → Headless (rows t) (leaves_of l) (record { heads = replicate n 0; nexts = replicate n 0; span = s })
+headless n t l s h r f a b =
     let m = leaves_many l in
     let i = items-length l.list.now in
     record {
@@ -198,6 +198,90 @@ blank n t l s h r f a b =
       low = omega (arith, rows-length t);
       high = b;
     }
+
+-- ---- where each number leads onward
+
+module _ (dropped : Fields → Bool) (rs : List Row) (ds : List InLeaf) (i : ℕ) (l : Links) where
+  pub linked_chained : Linked dropped rs ds i l → Chained dropped rs ds i l
+  linked_chained c =
+      record {
+        few = c.few;
+        row_room = c.row_room;
+        room = c.room;
+        starts = c.starts;
+        ended = λ k m. let y = c.starts k m in behind_ends l.nexts (length ds) c.onward ds 0 (get_or l.heads k 0) (omega arith) (λ z. (omega (arith, (y z).0), (y z).1));
+        those = c.those;
+        low = c.low;
+        high = c.high;
+        before = c.before;
+        behind = c.behind;
+      }
+
+  linked_of : Chained dropped rs ds i l → Onward (length ds) l.nexts → Linked dropped rs ds i l
+  linked_of c o =
+      record {
+        few = c.few;
+        row_room = c.row_room;
+        room = c.room;
+        starts = c.starts;
+        onward = o;
+        those = c.those;
+        low = c.low;
+        high = c.high;
+        before = c.before;
+        behind = c.behind;
+      }
+
+-- one more item
+module _
+    (dropped : Fields → Bool) (rs : List Row) (ds : List InLeaf) (i : ℕ) (l : Links)
+    (done : Linked dropped rs ds (i + 1) l) (h : i < length ds) (d : InLeaf) (e : (x : InLeaf) → get_or ds i x ≡ d) where
+  chained : Chained dropped rs ds (i + 1) l
+  chained = linked_chained dropped rs ds (i + 1) l done
+
+  -- not dropped
+  pub linked_kept : dropped d.item ≡ false → Linked dropped rs ds i l
+  linked_kept z = linked_of dropped rs ds i l (chained_kept dropped rs ds i l chained h d e z) done.onward
+
+  onward-put : (o : Found) → o ≡ find d.item.extent_start rs → Onward (length ds) (linked o i l).nexts
+  onward-put None f = done.onward
+  onward-put (Some (r, row)) f = let h₀ = get_or l.heads r 0 in λ j m. elim (ℕ_discrete j i) [
+    | yes q ↦ rw (q, get_or-set_same l.nexts i h₀ 0 (omega (arith, done.room))) (done.starts r (found_below rs d.item.extent_start r row (sym f)))
+    | no q ↦ rw (get_or-set_other l.nexts i j h₀ 0 q) (done.onward j m)
+  ]
+
+  module _ (kept : table_kept rs ≡ true) (t : dropped d.item ≡ true) where
+    -- put before the chain of its row, if it has one
+    pub linked_drop : (o : Found) → o ≡ find d.item.extent_start rs → Linked dropped rs ds i (linked o i l)
+    linked_drop o f = linked_of dropped rs ds i (linked o i l) (chained_drop dropped rs ds i l chained h d e kept t o f) (onward-put o f)
+
+-- a turn of the loop
+module _
+    (dropped : Fields → Bool) (t : Table) (leaves : Leaves) (m i : ℕ) (l : Links) (n : m ≡ i + 1) (done : Linked dropped (rows t.numbers.now) (leaves_of leaves) m l)
+    (h : i < length leaves.shared.now) (item : Item) (q : item ≡ item_of (drop (i * 70) leaves.list.now)) (b : Bool) (e : b ≡ dropped (fields item)) where
+  pub turn_kept : b ≡ false → Linked dropped (rows t.numbers.now) (leaves_of leaves) i l
+  turn_kept z = linked_kept dropped (rows t.numbers.now) (leaves_of leaves) i l (rw n at done) (omega (arith, leaves_many leaves)) _ (λ x. leaves_here leaves i x item h q) (sym e ∙ z)
+
+  pub turn_linked : b ≡ true → (l' : Links) → l' ≡ linked (find (fields item).extent_start (rows t.numbers.now)) i l → Linked dropped (rows t.numbers.now) (leaves_of leaves) i l'
+  turn_linked z l' u =
+      rw u (linked_drop dropped (rows t.numbers.now) (leaves_of leaves) i l (rw n at done) (omega (arith, leaves_many leaves)) _ (λ x. leaves_here leaves i x item h q) t.kept (sym e ∙ z) _ refl)
+
+-- before the first item is put in
+blank_headless : (rs : List Row) (ds : List InLeaf) (l : Links) → Blank rs ds l → Headless rs ds l
+blank_headless rs ds l b = record { few = b.few; row_room = b.row_room; room = b.room; none = b.none; low = b.low; high = b.high }
+
+-- no item is chained yet
+pub linked_first : (dropped : Fields → Bool) (rs : List Row) (ds : List InLeaf) (i : ℕ) (l : Links) → Blank rs ds l → length ds ≤ i → Linked dropped rs ds i l
+linked_first dropped rs ds i l b h = linked_of dropped rs ds i l (chained_first dropped rs ds i l (blank_headless rs ds l b) h) (λ j m z. absurd (z (b.ends j m)))
+
+-- arrays of n zeros
+pub blank : (n : ℕ) (t : List ℕ) (l : Leaves) (s : Range ℕ) → n ≤ 65536 → length t / 5 ≤ n → length l.list.now / 70 ≤ n → s.start ≡ length t / 5 → s.end ≡ 0
+    → Blank (rows t) (leaves_of l) (record { heads = replicate n 0; nexts = replicate n 0; span = s })
+blank n t l s h r f a b =
+    let e = headless n t l s h r f a b in
+    let m = leaves_many l in
+    let i = items-length l.list.now in
+    record { few = e.few; row_room = e.row_room; room = e.room; none = e.none; ends = λ j q. get_or-replicate {A = ℕ} n j 0 0 (omega (arith, l.one_each)); low = e.low; high = e.high }
 
 -- ---- the lines of rows from k on
 
@@ -258,7 +342,7 @@ no_unref n = go (freed n (map byte_in []))
 
 -- ---- the chain of each row, and the lines of all
 
-module _ (dropped : Fields → Bool) (t : List ℕ) (ds : List InLeaf) (l : Links) (done : Linked dropped (rows t) ds 0 l) where
+module _ (dropped : Fields → Bool) (t : List ℕ) (ds : List InLeaf) (l : Links) (done : Chained dropped (rows t) ds 0 l) where
   pub chain_of : (k : ℕ) (row : Row) → k < length t / 5 → row ≡ row_of (drop (k * 5) t) → along l.nexts 0 (get_or l.heads k 0) ds ≡ keep (drop_at dropped row.start) ds
   chain_of k row h e = done.those k row (omega (arith, rows-length t)) ∙ ap (λ (r : Row). keep (drop_at dropped r.start) ds) (rows_at t k row h ∙ sym e)
 

@@ -13,7 +13,7 @@ use Rattle.records.specs.Stages.{every}
 use Rattle.ref_def.specs.Drops.{InLeaf}
 use Rattle.records.proofs.Lists.{every-mapped}
 use Rattle.records.proofs.Tests.{every-at}
-use Rattle.drop_chains.specs.Chains.{along, number_behind, From, byte_in, unshared, freed, unref_lines, release_lines}
+use Rattle.drop_chains.specs.Chains.{along, number_behind, From, Onward, byte_in, unshared, freed, unref_lines, release_lines}
 
 module _ {A : Type 0} where
   along_yes : (nexts : List ℕ) (i h : ℕ) (x : A) (l : List A) → h ≡ i + 1 → along nexts i h (x ∷ l) ≡ x ∷ along nexts (i + 1) (get_or nexts i 0) l
@@ -102,6 +102,18 @@ module _ {A : Type 0} where
   behind_from nexts (x ∷ l) i h e z = elim (ℕ_discrete h (i + 1)) [
     | yes q ↦ (omega arith, omega arith)
     | no q ↦ let y = behind_from nexts l (i + 1) h (sym (behind_no nexts i h x l q) ∙ e) z in (omega (arith, y.0), omega (arith, y.1))
+  ]
+
+  -- where each number leads onward, every chain ends
+  pub behind_ends : (nexts : List ℕ) (n : ℕ) → Onward n nexts → (l : List A) (i h : ℕ) → n ≡ i + length l → From i n h → number_behind nexts i h l ≡ 0
+  unfolding number_behind
+  behind_ends nexts n o [] i h e g = elim (ℕ_discrete h 0) [
+    | yes q ↦ q
+    | no q ↦ absurd (omega (arith, (g q).0, (g q).1))
+  ]
+  behind_ends nexts n o (x ∷ l) i h e g = elim (ℕ_discrete h (i + 1)) [
+    | yes q ↦ behind_yes nexts i h x l q ∙ behind_ends nexts n o l (i + 1) (get_or nexts i 0) (omega arith) (o i (omega arith))
+    | no q ↦ behind_no nexts i h x l q ∙ behind_ends nexts n o l (i + 1) h (omega arith) (λ z. (omega (arith, (g z).0), (g z).1))
   ]
 
   -- from the item at index j on it goes on at the number that stands there

@@ -18,6 +18,10 @@ number_behind nexts i h (x ∷ xs) = cond (eqb h (i + 1)) (number_behind nexts (
 abbrev pub From : (i n h : ℕ) → Type 0
 From i n h = (h ≡ 0 → ⊥) → (i < h) × (h ≤ n)
 
+-- a chain goes on behind each of n items, so it ends
+abbrev pub Onward : ℕ → List ℕ → Type 0
+Onward n nexts = (j : ℕ) → j < n → From (j + 1) n (get_or nexts j 0)
+
 -- a shared byte as it is, and of a leaf that is not shared
 abbrev pub byte : ℕ → ℕ
 byte b = b

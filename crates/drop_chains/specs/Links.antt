@@ -7,7 +7,7 @@ use Rattle.table.specs.Rows.{Found}
 use Rattle.ref_def.specs.Drops.{InLeaf}
 use Rattle.std.specs.declared.ops.Range.{Range}
 use Rattle.drop_chains.specs.declared.Chains.{Chains}
-use Rattle.drop_chains.specs.Chains.{along, number_behind, From}
+use Rattle.drop_chains.specs.Chains.{along, number_behind, From, Onward}
 
 -- the drops among a list's items, where `dropped` says which are, and those of the extent at `start`
 abbrev pub drops_by : (Fields → Bool) → List InLeaf → List InLeaf
@@ -31,7 +31,7 @@ linked (Some (k, r)) i l = record { heads = set l.heads k (i + 1); nexts = set l
 linked None i l = l
 
 -- arrays with room for a chain of each row, and no head
-pub record Blank (rs : List Row) (ds : List InLeaf) (l : Links) : Type 0 where
+pub record Headless (rs : List Row) (ds : List InLeaf) (l : Links) : Type 0 where
   pub few : length ds ≤ 65536
   pub row_room : length rs ≤ length l.heads
   pub room : length ds ≤ length l.nexts
@@ -39,13 +39,36 @@ pub record Blank (rs : List Row) (ds : List InLeaf) (l : Links) : Type 0 where
   pub low : l.span.start ≡ length rs
   pub high : l.span.end ≡ 0
 
--- the drops from index i on are chained by row, and rows outside the range have none
-pub record Linked (dropped : Fields → Bool) (rs : List Row) (ds : List InLeaf) (i : ℕ) (l : Links) : Type 0 where
+-- the same, and nothing at any item
+pub record Blank (rs : List Row) (ds : List InLeaf) (l : Links) : Type 0 where
+  pub few : length ds ≤ 65536
+  pub row_room : length rs ≤ length l.heads
+  pub room : length ds ≤ length l.nexts
+  pub none : (k : ℕ) → k < length rs → get_or l.heads k 0 ≡ 0
+  pub ends : (j : ℕ) → j < length ds → get_or l.nexts j 0 ≡ 0
+  pub low : l.span.start ≡ length rs
+  pub high : l.span.end ≡ 0
+
+-- the drops from index i on are chained by row, and rows outside the range have none; at other items any number may stand
+pub record Chained (dropped : Fields → Bool) (rs : List Row) (ds : List InLeaf) (i : ℕ) (l : Links) : Type 0 where
   pub few : length ds ≤ 65536
   pub row_room : length rs ≤ length l.heads
   pub room : length ds ≤ length l.nexts
   pub starts : (k : ℕ) → k < length rs → From i (length ds) (get_or l.heads k 0)
   pub ended : (k : ℕ) → k < length rs → number_behind l.nexts 0 (get_or l.heads k 0) ds ≡ 0
+  pub those : (k : ℕ) (e : Row) → k < length rs → along l.nexts 0 (get_or l.heads k 0) ds ≡ keep (drop_at dropped (get_or rs k e).start) (drop i ds)
+  pub low : l.span.start ≤ length rs
+  pub high : l.span.end ≤ length rs
+  pub before : (k : ℕ) → k < l.span.start → get_or l.heads k 0 ≡ 0
+  pub behind : (k : ℕ) → l.span.end ≤ k → k < length rs → get_or l.heads k 0 ≡ 0
+
+-- the same, and each number at any item leads onward
+pub record Linked (dropped : Fields → Bool) (rs : List Row) (ds : List InLeaf) (i : ℕ) (l : Links) : Type 0 where
+  pub few : length ds ≤ 65536
+  pub row_room : length rs ≤ length l.heads
+  pub room : length ds ≤ length l.nexts
+  pub starts : (k : ℕ) → k < length rs → From i (length ds) (get_or l.heads k 0)
+  pub onward : Onward (length ds) l.nexts
   pub those : (k : ℕ) (e : Row) → k < length rs → along l.nexts 0 (get_or l.heads k 0) ds ≡ keep (drop_at dropped (get_or rs k e).start) (drop i ds)
   pub low : l.span.start ≤ length rs
   pub high : l.span.end ≤ length rs

@@ -1,8 +1,7 @@
 // A chain of drops is walked in list order: `for (item, byte) in chain`.
 
-ghost use Rattle.std.specs.Prelude.{◌≡◌, ◌≤◌, length};
-ghost use Rattle.ref_def.specs.Lent.{leaves_of};
-ghost use Rattle.drop_chains.specs.Chains.{From, number_behind};
+ghost use Rattle.std.specs.Prelude.{◌≤◌, length};
+ghost use Rattle.drop_chains.specs.Chains.{From, Onward};
 
 use item::{Item, item_at};
 use ref_def::Leaves;
@@ -15,7 +14,7 @@ pub struct Chain<'a> {
     pub number: usize,
     ghost room: { length leaves.shared.now ≤ length nexts.now },
     ghost inside: { From 0 (length leaves.shared.now) number },
-    ghost ended: { number_behind nexts.now 0 number (leaves_of leaves) ≡ 0 },
+    ghost onward: { Onward (length leaves.shared.now) nexts.now },
 }
 
 impl<'a> Iterator for Chain<'a> {

@@ -4,6 +4,7 @@
 #![tactic(auto)]
 
 pub mod chain;
+pub mod ending;
 
 ghost use Rattle.std.specs.Prelude.{◌≡◌, Bool, List, ℕ, [], ◌∷◌, map, ◌+◌, ◌≤◌, ◌<◌, ◌^◌, length};
 ghost use Rattle.std.specs.Iterator.{IsFinite};
@@ -17,10 +18,11 @@ ghost use Rattle.plan_lines.specs.Lines.{Laid};
 ghost use Rattle.ref_def.specs.Drops.{releases as all_releases, unrefs as all_unrefs};
 ghost use Rattle.ref_def.specs.Lent.{leaves_of};
 ghost use Rattle.drop_chains.specs.Chains.{byte, byte_in, freed, line_in, unref_lines, release_lines};
-ghost use Rattle.drop_chains.specs.Links.{drops_by, links, linked, Linked};
-ghost use Rattle.drop_chains.specs.Reading.{left};
+ghost use Rattle.drop_chains.specs.Links.{drops_by, links, linked, Chained, Linked};
+ghost use Rattle.drop_chains.specs.Reading.{left_ending};
 
 pub use chain::Chain;
+pub use ending::EndingChain;
 use item::Item;
 use ref_def::Leaves;
 use std::ops::Range;
@@ -51,16 +53,16 @@ pub fn is_freed<I: Iterator<Item = u8> + Drop>(references: u64, bytes: I) -> boo
 }
 
 // Whether the drops of a chain do.
-fn is_chain_freed(references: u64, chain: Chain) -> bool
-    ensures { result ≡ freed references (map byte_in (left chain.entry)) }
+fn is_chain_freed(references: u64, chain: EndingChain) -> bool
+    ensures { result ≡ freed references (map byte_in (left_ending chain.entry)) }
 {
     is_freed(references, chain.map(|(_, byte)| byte))
 }
 
 // A line for each drop of a chain.
-fn put_all(chain: Chain, out: &mut [u64], n: usize) -> usize
-    requires { n + length (left chain) < 2 ^ 64 }
-    ensures { Laid ref_numbers 2 n (map line_in (left chain.entry)) out.old result out.new }
+fn put_all(chain: EndingChain, out: &mut [u64], n: usize) -> usize
+    requires { n + length (left_ending chain) < 2 ^ 64 }
+    ensures { Laid ref_numbers 2 n (map line_in (left_ending chain.entry)) out.old result out.new }
 {
     plan_lines::put_refs(chain.map(|(item, _)| item), out, n)
 }
@@ -68,14 +70,14 @@ fn put_all(chain: Chain, out: &mut [u64], n: usize) -> usize
 // The lines of a chain: releases if its drops free their extent, else unrefs.
 pub fn put_chain(
     references: u64,
-    chain: Chain,
+    chain: EndingChain,
     unrefs: &mut [u64],
     releases: &mut [u64],
     at: DropCounts,
 ) -> DropCounts
-    requires { (at.unrefs + length (unref_lines references (left chain)) < 2 ^ 64) × (at.releases + length (release_lines references (left chain)) < 2 ^ 64) }
-    ensures unrefs { Laid ref_numbers 2 at.unrefs (unref_lines references (left chain.entry)) unrefs.old result.unrefs unrefs.new }
-    ensures releases { Laid ref_numbers 2 at.releases (release_lines references (left chain.entry)) releases.old result.releases releases.new }
+    requires { (at.unrefs + length (unref_lines references (left_ending chain)) < 2 ^ 64) × (at.releases + length (release_lines references (left_ending chain)) < 2 ^ 64) }
+    ensures unrefs { Laid ref_numbers 2 at.unrefs (unref_lines references (left_ending chain.entry)) unrefs.old result.unrefs unrefs.new }
+    ensures releases { Laid ref_numbers 2 at.releases (release_lines references (left_ending chain.entry)) releases.old result.releases releases.new }
 {
     if is_chain_freed(references, chain) {
         let n = put_all(chain, releases, at.releases);
@@ -109,8 +111,9 @@ impl<'a> Chains<'a> {
         self.heads[k] = (i + 1) as u32;
         self.span = self.span.start.min(k)..self.span.end.max(k + 1);
     }
-    // The lines of all rows, by the chains of their drops.
-    pub fn put_lines(
+    // The lines of all rows, by the chains of their drops. The table need not be kept, and at items that no chain passes any number
+    // may stand.
+    pub fn put_rows(
         &self,
         leaves: Leaves,
         table: &[u64],
@@ -118,12 +121,12 @@ impl<'a> Chains<'a> {
         releases: &mut [u64],
         at: DropCounts,
     ) -> DropCounts
-        requires { (p : Fields → Bool) × Linked p (rows table.now) (leaves_of leaves) 0 (links self.now)
+        requires { (p : Fields → Bool) × Chained p (rows table.now) (leaves_of leaves) 0 (links self.now)
             × (at.unrefs + length (all_unrefs (rows table.now) (drops_by p (leaves_of leaves))) < 2 ^ 64)
             × (at.releases + length (all_releases (rows table.now) (drops_by p (leaves_of leaves))) < 2 ^ 64) }
-        ensures unrefs { (p : Fields → Bool) → Linked p (rows table.now) (leaves_of leaves.entry) 0 (links self.now)
+        ensures unrefs { (p : Fields → Bool) → Chained p (rows table.now) (leaves_of leaves.entry) 0 (links self.now)
             → Laid ref_numbers 2 at.unrefs (all_unrefs (rows table.now) (drops_by p (leaves_of leaves.entry))) unrefs.old result.unrefs unrefs.new }
-        ensures releases { (p : Fields → Bool) → Linked p (rows table.now) (leaves_of leaves.entry) 0 (links self.now)
+        ensures releases { (p : Fields → Bool) → Chained p (rows table.now) (leaves_of leaves.entry) 0 (links self.now)
             → Laid ref_numbers 2 at.releases (all_releases (rows table.now) (drops_by p (leaves_of leaves.entry))) releases.old result.releases releases.new }
     {
         let mut counts = at;
@@ -132,7 +135,7 @@ impl<'a> Chains<'a> {
             let row = table::row_at(table, k);
             let number = self.heads[k] as usize;
             let nexts = &self.nexts[..];
-            let chain = Chain {
+            let chain = EndingChain {
                 leaves,
                 nexts,
                 number,
@@ -140,5 +143,25 @@ impl<'a> Chains<'a> {
             counts = put_chain(row.references, chain, unrefs, releases, counts);
         }
         counts
+    }
+
+    // The same of a table that is kept, where each number leads onward.
+    pub fn put_lines(
+        &self,
+        leaves: Leaves,
+        table: Table,
+        unrefs: &mut [u64],
+        releases: &mut [u64],
+        at: DropCounts,
+    ) -> DropCounts
+        requires { (p : Fields → Bool) × Linked p (rows table.numbers.now) (leaves_of leaves) 0 (links self.now)
+            × (at.unrefs + length (all_unrefs (rows table.numbers.now) (drops_by p (leaves_of leaves))) < 2 ^ 64)
+            × (at.releases + length (all_releases (rows table.numbers.now) (drops_by p (leaves_of leaves))) < 2 ^ 64) }
+        ensures unrefs { (p : Fields → Bool) → Linked p (rows table.entry.numbers.now) (leaves_of leaves.entry) 0 (links self.now)
+            → Laid ref_numbers 2 at.unrefs (all_unrefs (rows table.entry.numbers.now) (drops_by p (leaves_of leaves.entry))) unrefs.old result.unrefs unrefs.new }
+        ensures releases { (p : Fields → Bool) → Linked p (rows table.entry.numbers.now) (leaves_of leaves.entry) 0 (links self.now)
+            → Laid ref_numbers 2 at.releases (all_releases (rows table.entry.numbers.now) (drops_by p (leaves_of leaves.entry))) releases.old result.releases releases.new }
+    {
+        self.put_rows(leaves, table.numbers, unrefs, releases, at)
     }
 }

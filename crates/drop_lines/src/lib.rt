@@ -2,6 +2,9 @@
 // are released, and a line for each drop.
 #![tactic(auto)]
 
+#[cfg(test)]
+mod tests;
+
 ghost use Rattle.std.specs.Prelude.{◌≡◌, ℕ, ◌+◌, ◌/◌, ◌≤◌, ◌<◌, ◌^◌, length};
 ghost use mathlib.Core.List.{List};
 ghost use Rattle.records.specs.Lent.{old, new};
@@ -16,7 +19,7 @@ ghost use Rattle.drop_lines.specs.Dropped.{taken, drops_in};
 ghost use Rattle.drop_lines.specs.Lent.{cut_drops};
 ghost use Rattle.drop_lines.specs.Raw.{due, item_due, drop_of, lines_at, row_unrefs, row_releases};
 ghost use Rattle.drop_chains.specs.Counts.{Countable};
-ghost use Rattle.drop_chains.specs.Links.{links, Blank, Linked};
+ghost use Rattle.drop_chains.specs.Links.{links, Headless, Blank, Chained, Linked};
 
 use drop_chains::Chains;
 pub use drop_chains::DropCounts;
@@ -169,10 +172,13 @@ fn put_plain(
 
 // ---- drops chained by row
 
-// The drops chained by row, in list order: they are put in from the last to the first, each before those behind it.
+// The drops chained by row, in list order: they are put in from the last to the first, each before those behind it. Where nothing
+// stood at any item, each number leads onward.
 fn link(c: Cut, leaves: Leaves, table: Table, chains: &mut Chains)
-    requires { Blank (rows table.numbers.now) (leaves_of leaves) (links chains.old) }
-    ensures { Linked (taken c) (rows table.entry.numbers.now) (leaves_of leaves.entry) 0 (links chains.new) }
+    requires { Headless (rows table.numbers.now) (leaves_of leaves) (links chains.old) }
+    ensures chained { Chained (taken c) (rows table.entry.numbers.now) (leaves_of leaves.entry) 0 (links chains.new) }
+    ensures linked { Blank (rows table.entry.numbers.now) (leaves_of leaves.entry) (links chains.old)
+        → Linked (taken c) (rows table.entry.numbers.now) (leaves_of leaves.entry) 0 (links chains.new) }
 {
     // A reader goes forward alone.
     for i in (0..leaves.list.len() / item::RECORD).rev() {
@@ -207,7 +213,7 @@ fn put_sized<const N: usize>(
         span: table.numbers.len() / table::WIDTH..0,
     };
     link(c, leaves, table, &mut chains);
-    chains.put_lines(leaves, table.numbers, unrefs, releases, at)
+    chains.put_rows(leaves, table.numbers, unrefs, releases, at)
 }
 
 // A line for each drop: a release if its extent is released, else an unref; each by extent start, then in list order. That the

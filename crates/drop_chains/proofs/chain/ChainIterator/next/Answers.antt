@@ -1,7 +1,7 @@
 use Rattle.std.proofs.Common.{rules, length, ap}
 use native.Mathlib.Omega.{arith}
 use Rattle.item.proofs.Laws.{items-length}
-use Rattle.drop_chains.proofs.Reading.{left_none, number_in, inside_on, ended_on, left_more}
+use Rattle.drop_chains.proofs.Reading.{left_none, number_in, left_more}
 use Rattle.drop_chains.proofs.chain.ChainIterator.next.Goals as goal
 
 pub returns-then-self-eq0-clause-steps : goal.returns-then-self-eq0-clause-steps
@@ -9,9 +9,6 @@ returns-then-self-eq0-clause-steps c = let h = left_none c.args.self.now c.if-se
 
 pub item_at-item-requires : goal.item_at-item-requires
 item_at-item-requires c = let s = c.args.self.now in omega (arith, number_in s c.if-self-eq0.false, s.leaves.one_each, items-length s.leaves.list.now)
-
-pub invariant_of-self : goal.invariant_of-self
-invariant_of-self c = let s = c.args.self.now in record { room = s.room; inside = inside_on s c.if-self-eq0.false; ended = ended_on s c.if-self-eq0.false }
 
 pub returns-clause-steps : goal.returns-clause-steps
 returns-clause-steps c = left_more c.args.self.now c.if-self-eq0.false _ c.item_at-item.ensures
