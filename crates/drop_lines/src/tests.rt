@@ -3,15 +3,16 @@ ghost use Rattle.std.specs.Prelude.{◌/◌, ◌≤◌, ◌<◌, length};
 use super::*;
 use drop_chains::Chain;
 
-// As `put_sized`, by the function that asks for a kept table and for numbers that all lead onward.
-fn put_onward(
+// The chains of all rows, as `put_sized` makes them: the keys of the first three drops of the first row, and the lines of all, by the
+// function that asks for a kept table and for numbers that all lead onward.
+fn walk_and_put(
     c: Cut,
     leaves: Leaves,
     table: Table,
     unrefs: &mut [u64],
     releases: &mut [u64],
-) -> DropCounts
-    requires { (length table.numbers.now / 5 ≤ 4) × (length leaves.list.now / 70 ≤ 4) }
+) -> ([Option<u64>; 3], DropCounts)
+    requires { (0 < length table.numbers.now / 5) × (length table.numbers.now / 5 ≤ 4) × (length leaves.list.now / 70 ≤ 4) }
 {
     let mut heads = [0u32; 4];
     let mut nexts = [0u32; 4];
@@ -25,25 +26,7 @@ fn put_onward(
         unrefs: 0,
         releases: 0,
     };
-    chains.put_lines(leaves, table, unrefs, releases, none)
-}
-
-// The keys of the first three drops of the first row, by its chain.
-fn keys_of_the_first(
-    c: Cut,
-    leaves: Leaves,
-    table: Table,
-) -> (Option<u64>, Option<u64>, Option<u64>)
-    requires { (0 < length table.numbers.now / 5) × (length table.numbers.now / 5 ≤ 4) × (length leaves.list.now / 70 ≤ 4) }
-{
-    let mut heads = [0u32; 4];
-    let mut nexts = [0u32; 4];
-    let mut chains = Chains {
-        heads: &mut heads,
-        nexts: &mut nexts,
-        span: table.numbers.len() / table::WIDTH..0,
-    };
-    link(c, leaves, table, &mut chains);
+    let counts = chains.put_lines(leaves, table, unrefs, releases, none);
     let number = chains.heads[0] as usize;
     let nexts = &chains.nexts[..];
     let mut keys = Chain {
@@ -52,7 +35,7 @@ fn keys_of_the_first(
         number,
     }
     .map(|(item, _)| item.key);
-    (keys.next(), keys.next(), keys.next())
+    ([keys.next(), keys.next(), keys.next()], counts)
 }
 
 // Three items are dropped: both references of one extent, and one of the two of another.
@@ -87,10 +70,9 @@ fn lines_by_row(rt: HostRuntime) {
         one: 0,
         two: 0,
     };
-    let keys = keys_of_the_first(all, leaves, table);
-    assert_eq!(rt; keys, (Some(0), Some(16384), None));
     let (mut unrefs, mut releases) = ([9u64; 4], [9u64; 6]);
-    let counts = put_onward(all, leaves, table, &mut unrefs, &mut releases);
+    let (keys, counts) = walk_and_put(all, leaves, table, &mut unrefs, &mut releases);
+    assert_eq!(rt; keys, [Some(0), Some(16384), None]);
     assert_eq!(rt; (counts.unrefs, counts.releases), (1, 2));
     assert_eq!(rt; unrefs, [2097152, 8192, 9, 9]);
     assert_eq!(rt; releases, [1048576, 0, 1048576, 16384, 9, 9]);
